@@ -1,0 +1,23 @@
+use Rattle.bat.proofs.FrameLaws.{text-contents}
+use borrow.Author.Needs.{needs}
+use Rattle.bat.proofs.framing.contents.Statement.{statement}
+use Rattle.bat.proofs.framing.contents.Tie as tie
+use Rattle.bat.proofs.framing.contents.Reads as reads
+use Rattle.bat.proofs.framing.contents.Lts as lts
+use Rattle.bat.proofs.framing.head_length.Reads as head-length-reads
+use Rattle.octets.proofs.spans.text.Reads as text-reads
+
+head-length-requires : tie.Need-head-length-requires
+head-length-requires c κs = search needs
+
+cast-len : tie.Need-cast-len
+cast-len c = search needs
+
+text-requires : tie.Need-text-requires
+text-requires c κs = search needs
+
+returns : tie.Need-returns
+returns c = search (text-contents, needs)
+
+pub contents-spec : {M : Type 1} → statement M
+contents-spec = tie.close (tie.spec head-length-requires cast-len text-requires returns)

@@ -1,0 +1,35 @@
+use Rattle.bat.proofs.JudgeLaws.{listing}
+use borrow.Author.Needs.{needs}
+use Rattle.bat.proofs.judging.is_listed.Statement.{statement}
+use Rattle.bat.proofs.judging.is_listed.Tie as tie
+use Rattle.bat.proofs.judging.is_listed.Reads as reads
+use Rattle.bat.proofs.judging.is_listed.Lts as lts
+
+enum-told : tie.Need-enum-told
+enum-told c = search needs
+
+enum-told-2 : tie.Need-enum-told-2
+enum-told-2 c = search needs
+
+enum-told-3 : tie.Need-enum-told-3
+enum-told-3 c = search needs
+
+enum-told-4 : tie.Need-enum-told-4
+enum-told-4 c = search needs
+
+returns : tie.Need-returns
+returns c = search (listing, needs)
+
+returns-2 : tie.Need-returns-2
+returns-2 c = search (listing, needs)
+
+returns-3 : tie.Need-returns-3
+returns-3 c = search (listing, needs)
+
+returns-4 : tie.Need-returns-4
+returns-4 c = search (listing, needs)
+
+pub is-listed-spec : {M : Type 1} → statement M
+is-listed-spec =
+    tie.close
+    (tie.spec enum-told enum-told-2 enum-told-3 enum-told-4 returns returns-2 returns-3 returns-4)

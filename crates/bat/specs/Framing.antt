@@ -1,0 +1,136 @@
+-- Document 01, "Elements", first two paragraphs (Q.765.5, 4.6.1.1): the four fields of an element, and
+-- how application data is cut into elements. Numbers 1, 2 and 3.
+use Prim.Native.Nat.{ℕ, zero, suc, _+_, _*_, _%_}
+use mathlib.Core.List.{List, [], _∷_, _++_}
+use mathlib.Core.Bool.{Bool, cond}
+use mathlib.Core.Option.{Option, none, some, Option·map, Option·elim}
+use lib.ListN.{length, getD, take, drop}
+use lib.Dec.{leb, ltb, eqb}
+
+-- ---- octets
+-- bit 8 of an octet is set
+abbrev pub bit8 : ℕ → Bool
+bit8 b = leb 128 b
+
+-- the octet of s behind k others; 0 where there is none
+abbrev pub octet : ℕ → List ℕ → ℕ
+octet k s = getD s k 0
+
+-- ---- length
+-- A length field: its octets, its number, and what stands behind it.
+pub data Length : Type 0 where
+  sized : List ℕ → ℕ → List ℕ → Length
+  unsized : Length
+
+-- The length at the front of s. The first octet has the seven low bits; where its bit 8 is 0 a second
+-- one follows, whose bits 4 to 1 are the high bits, whose bit 8 is 1 and whose other bits say nothing.
+-- So a small length may have the longer form. There is none where an octet is missing or the second
+-- would go on.
+unfoldable pub lengthOf : List ℕ → Length
+lengthOf [] = unsized
+lengthOf (a ∷ []) = cond (bit8 a) (sized (a ∷ []) (a % 128) []) unsized
+lengthOf (a ∷ b ∷ s) =
+    cond (bit8 a) (sized (a ∷ []) (a % 128) (b ∷ s))
+    (cond (bit8 b) (sized (a ∷ b ∷ []) (a % 128 + b % 16 * 128) s) unsized)
+
+-- ---- compatibility
+-- Compatibility octets run to the first that has bit 8 set. How many octets of s stand in front of that
+-- one; all of them where there is none.
+unfoldable pub unmarked : List ℕ → ℕ
+unmarked [] = 0
+unmarked (b ∷ s) = cond (bit8 b) 0 (suc (unmarked s))
+
+-- ---- element
+-- Identifier, length, compatibility, contents. Only the first compatibility octet has a meaning;
+-- `extension` are those behind it.
+pub record Element : Type 0 where
+  pub identifier : ℕ
+  pub size : List ℕ
+  pub compatibility : ℕ
+  pub extension : List ℕ
+  pub contents : List ℕ
+
+-- the octets in front of the contents
+unfoldable pub head : Element → List ℕ
+head e = e .identifier ∷ (e .size ++ (e .compatibility ∷ e .extension))
+
+-- all its octets
+unfoldable pub whole : Element → List ℕ
+whole e = head e ++ e .contents
+
+-- What stands at the front of octets: an element and what is behind it, nothing that can be framed, or
+-- the end.
+pub data Front : Type 0 where
+  first : Element → List ℕ → Front
+  unframed : Front
+  ended : Front
+
+-- What the length counts, s, is compatibility and contents; t stands behind it. Framing fails where
+-- compatibility does not end inside s.
+unfoldable pub countedBy : ℕ → List ℕ → List ℕ → List ℕ → Front
+countedBy i size s t =
+    cond (ltb (unmarked s) (length s))
+    (first (record {
+      identifier = i;
+      size = size;
+      compatibility = octet 0 s;
+      extension = take (unmarked s) (drop 1 s);
+      contents = drop (suc (unmarked s)) s;
+    }) t)
+    unframed
+
+-- It fails too where the length n is 0, and where the element passes the end of t.
+unfoldable pub elementBy : ℕ → List ℕ → ℕ → List ℕ → Front
+elementBy i size n t = cond (eqb n 0) unframed (cond (ltb (length t) n) unframed (countedBy i size (take n t) (drop n t)))
+
+unfoldable pub sizedBy : ℕ → Length → Front
+sizedBy i (sized size n t) = elementBy i size n t
+sizedBy i unsized = unframed
+
+unfoldable pub front : List ℕ → Front
+front [] = ended
+front (i ∷ s) = sizedBy i (lengthOf s)
+
+-- by what stands at the front
+unfoldable pub onFront : {X : Type 0} → Front → (Element → List ℕ → X) → X → X → X
+onFront (first e t) go bad end = go e t
+onFront unframed go bad end = bad
+onFront ended go bad end = end
+
+-- ---- elements one behind the other
+-- What the elements of s come to, of which the first stands d octets behind some point. `step` takes an
+-- element, its distance from that point, and what those behind it come to; `bad` takes the distance of
+-- one that can't be framed. An element has octets, so there are at most as many as s has octets: k
+-- counts them down.
+unfoldable pub walkFrom : {X : Type 0} → (Element → ℕ → X → X) → (ℕ → X) → X → ℕ → ℕ → List ℕ → X
+walkFrom step bad end zero d s = end
+walkFrom step bad end (suc k) d s =
+    onFront (front s) (λ e t. step e d (walkFrom step bad end k (d + length (whole e)) t)) (bad d) end
+
+unfoldable pub walk : {X : Type 0} → (Element → ℕ → X → X) → (ℕ → X) → X → ℕ → List ℕ → X
+walk step bad end d s = walkFrom step bad end (length s) d s
+
+-- ---- application data
+-- its elements, where all of it can be framed; empty data has none
+abbrev pub withElement : Element → ℕ → Option (List Element) → Option (List Element)
+withElement e d es = Option·map (λ (r : List Element). e ∷ r) es
+
+unfoldable pub elements : List ℕ → Option (List Element)
+elements s = walk withElement (λ d. none) (some []) 0 s
+
+-- the most octets of application data, and of a whole element
+abbrev pub mostOctets : ℕ
+mostOctets = 2048
+
+-- Application data is refused by a number, or taken as its elements.
+pub data Cut : Type 0 where
+  refused : ℕ → Cut
+  taken : List Element → Cut
+
+-- more elements than the table has entries
+unfoldable pub roomFor : ℕ → List Element → Cut
+roomFor entries es = cond (ltb entries (length es)) (refused 3) (taken es)
+
+-- 1, 2, 3, in this order
+unfoldable pub cut : ℕ → List ℕ → Cut
+cut entries s = cond (ltb mostOctets (length s)) (refused 1) (Option·elim (elements s) (refused 2) (roomFor entries))

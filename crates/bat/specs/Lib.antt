@@ -1,0 +1,5 @@
+pub mod Framing
+pub mod Values
+pub mod Judging
+pub mod Writing
+pub mod Meaning

@@ -1,0 +1,262 @@
+-- Document 01, "Elements", the list of identifiers (Q.765.5, 4.6.1.2 to 4.6.1.17): each element is
+-- either decoded, by its identifier and its contents, or unrecognised.
+use Prim.Native.Nat.{ℕ, suc, _+_, _*_, _%_}
+use mathlib.Core.List.{List, [], _∷_}
+use mathlib.Core.Bool.{Bool, true, false, _&&_, cond}
+use mathlib.Core.Option.{Option, none, some, Option·map, Option·elim}
+use lib.ListN.{length, take, drop}
+use lib.Dec.{leb, ltb, eqb}
+use Rattle.codes.specs.Codes.{isAction, isIndicator, isSignal}
+use Rattle.bat.specs.declared.Place.{Place}
+use Rattle.bat.specs.declared.Place.the-variants.{Itself, Inner}
+use Rattle.bat.specs.Framing.{octet, unmarked, Element, whole, front, onFront, walk}
+
+-- ---- values
+-- An element that a compatibility report names, and the distance in octets from its identifier to that
+-- of the inner element at fault; 0 where it is at fault itself.
+pub record Diagnostic : Type 0 where
+  pub identifier : ℕ
+  pub index : ℕ
+
+-- Organisation, and the octets behind it: type and configuration.
+pub record Codec : Type 0 where
+  pub organisation : ℕ
+  pub information : List ℕ
+
+-- What an inner element of a constructor holds, with the element's own compatibility: bits 7 to 1 of its
+-- first compatibility octet.
+pub record ListedCodec : Type 0 where
+  pub compatibility : ℕ
+  pub codec : Codec
+
+pub record Kind : Type 0 where
+  pub compatibility : ℕ
+  pub kind : ℕ
+
+pub data Lasting : Type 0 where
+  untimed : Lasting
+  -- compatibility, duration
+  lasting : ℕ → ℕ → Lasting
+
+pub data Value : Type 0 where
+  -- 1
+  action : ℕ → Value
+  -- 2
+  backbone : List ℕ → Value
+  -- 3
+  address : List ℕ → Value
+  -- 4
+  codecs : List ListedCodec → Value
+  -- 5
+  single : Codec → Value
+  -- 6: reason, diagnostics
+  report : ℕ → List Diagnostic → Value
+  -- 7
+  characteristics : ℕ → Value
+  -- 8
+  control : List ℕ → Value
+  -- 9
+  tunnelling : Bool → Value
+  -- 10: network id, local id
+  controlUnit : List ℕ → List ℕ → Value
+  -- 11
+  signal : Kind → Lasting → Value
+  -- 12
+  capability : Bool → Value
+  -- 13
+  indicators : List ℕ → Value
+  -- 14
+  signalType : ℕ → Value
+  -- 15
+  duration : ℕ → Value
+
+-- An element is decoded as a value, or unrecognised. The place says what is at fault: the element
+-- itself, or first the inner element that stands so many octets behind the front of the contents.
+pub data Reading : Type 0 where
+  decoded : Value → Reading
+  unrecognised : Place → Reading
+
+abbrev pub wrong : Reading
+wrong = unrecognised Itself
+
+-- bits 7 to 1 of a compatibility octet; bit 8 only says whether another follows
+abbrev pub meant : ℕ → ℕ
+meant c = c % 128
+
+-- bit 1 of an octet
+abbrev pub bit1 : ℕ → Bool
+bit1 b = eqb (b % 2) 1
+
+-- ---- each identifier, from its contents
+-- 1 action: one octet, 0 to 24
+unfoldable pub actionIn : List ℕ → Reading
+actionIn s = cond (eqb (length s) 1) (cond (isAction (octet 0 s)) (decoded (action (octet 0 s))) wrong) wrong
+
+-- 2 backbone connection: 1 to 4 octets
+unfoldable pub backboneIn : List ℕ → Reading
+backboneIn s = cond (leb 1 (length s) && leb (length s) 4) (decoded (backbone s)) wrong
+
+-- 3 interworking address: 1 to 20 octets
+unfoldable pub addressIn : List ℕ → Reading
+addressIn s = cond (leb 1 (length s) && leb (length s) 20) (decoded (address s)) wrong
+
+-- 5 single codec: organisation 0, 1 or 2 and at least one more octet. For 1 (ITU-T) the next is the type,
+-- 0 to 12, and types 1 to 6 have nothing after it; other configuration octets are carried
+unfoldable pub ituCodec : List ℕ → Bool
+ituCodec s = cond (leb (octet 0 s) 12) (cond (leb 1 (octet 0 s) && leb (octet 0 s) 6) (eqb (length s) 1) true) false
+
+unfoldable pub rightCodec : Codec → Bool
+rightCodec c =
+    cond (leb 1 (length (c .information)))
+    (cond (leb (c .organisation) 2) (cond (eqb (c .organisation) 1) (ituCodec (c .information)) true) false)
+    false
+
+abbrev pub codecOf : List ℕ → Codec
+codecOf s = record { organisation = octet 0 s; information = drop 1 s }
+
+unfoldable pub singleIn : List ℕ → Reading
+singleIn s = cond (rightCodec (codecOf s)) (decoded (single (codecOf s))) wrong
+
+-- 6 compatibility report: a reason octet, then zero or more diagnostics of three octets
+unfoldable pub diagnosticsIn : List ℕ → Option (List Diagnostic)
+diagnosticsIn [] = some []
+diagnosticsIn (i ∷ []) = none
+diagnosticsIn (i ∷ a ∷ []) = none
+diagnosticsIn (i ∷ a ∷ b ∷ s) =
+    Option·map (λ (r : List Diagnostic). record { identifier = i; index = a * 256 + b } ∷ r) (diagnosticsIn s)
+
+unfoldable pub reportIn : List ℕ → Reading
+reportIn [] = wrong
+reportIn (r ∷ s) = Option·elim (diagnosticsIn s) wrong (λ ds. decoded (report r ds))
+
+-- 7 connection characteristics: one octet, 0 to 4
+unfoldable pub characteristicsIn : List ℕ → Reading
+characteristicsIn s = cond (eqb (length s) 1) (cond (leb (octet 0 s) 4) (decoded (characteristics (octet 0 s))) wrong) wrong
+
+-- 8 bearer control information: 1 octet or more
+unfoldable pub controlIn : List ℕ → Reading
+controlIn s = cond (leb 1 (length s)) (decoded (control s)) wrong
+
+-- 9 tunnelling: one octet, bit 1 read, the rest ignored
+unfoldable pub tunnellingIn : List ℕ → Reading
+tunnellingIn s = cond (eqb (length s) 1) (decoded (tunnelling (bit1 (octet 0 s)))) wrong
+
+-- 10 control unit: octet n, n octets of network id, at least one octet of local id
+unfoldable pub unitIn : List ℕ → Reading
+unitIn [] = wrong
+unitIn (n ∷ s) = cond (ltb n (length s)) (decoded (controlUnit (take n s) (drop n s))) wrong
+
+-- 12 redirection capability: octets of which exactly the last has bit 8 set, so that it is the first that
+-- has; bit 1 of the first octet read
+unfoldable pub capabilityIn : List ℕ → Reading
+capabilityIn s = cond (eqb (suc (unmarked s)) (length s)) (decoded (capability (bit1 (octet 0 s)))) wrong
+
+-- 13 redirection indicators: 1 to 16 octets, each 0 to 11
+unfoldable pub allIndicators : List ℕ → Bool
+allIndicators [] = true
+allIndicators (b ∷ s) = isIndicator b && allIndicators s
+
+unfoldable pub rightIndicators : List ℕ → Bool
+rightIndicators s = cond (leb 1 (length s) && leb (length s) 16) (allIndicators s) false
+
+unfoldable pub indicatorsIn : List ℕ → Reading
+indicatorsIn s = cond (rightIndicators s) (decoded (indicators s)) wrong
+
+-- 14 signal type: one octet, 0 to 15 or 64 to 83
+unfoldable pub rightType : List ℕ → Bool
+rightType s = eqb (length s) 1 && isSignal (octet 0 s)
+
+unfoldable pub typeIn : List ℕ → Reading
+typeIn s = cond (rightType s) (decoded (signalType (octet 0 s))) wrong
+
+-- 15 duration: two octets, most significant first
+abbrev pub durationOf : List ℕ → ℕ
+durationOf s = octet 0 s * 256 + octet 1 s
+
+unfoldable pub durationIn : List ℕ → Reading
+durationIn s = cond (eqb (length s) 2) (decoded (duration (durationOf s))) wrong
+
+-- ---- constructors
+-- A constructor stands or falls whole. Where it falls, the place is its own if it is empty, and else that
+-- of its first offending inner element: wrong, unframed or out of place.
+
+-- 4 codec list: one or more of 5.
+-- the codecs, or the distance of the first offence from the front of the contents
+pub data Codecs : Type 0 where
+  allCodecs : List ListedCodec → Codecs
+  offence : ℕ → Codecs
+
+unfoldable pub withCodec : ListedCodec → Codecs → Codecs
+withCodec c (allCodecs cs) = allCodecs (c ∷ cs)
+withCodec c (offence d) = offence d
+
+unfoldable pub onCodecs : {X : Type 0} → Codecs → (List ListedCodec → X) → (ℕ → X) → X
+onCodecs (allCodecs cs) go bad = go cs
+onCodecs (offence d) go bad = bad d
+
+unfoldable pub isSingle : Element → Bool
+isSingle e = eqb (e .identifier) 5 && rightCodec (codecOf (e .contents))
+
+abbrev pub listedCodec : Element → ListedCodec
+listedCodec e = record { compatibility = meant (e .compatibility); codec = codecOf (e .contents) }
+
+unfoldable pub codecThen : Element → ℕ → Codecs → Codecs
+codecThen e d rest = cond (isSingle e) (withCodec (listedCodec e) rest) (offence d)
+
+unfoldable pub codecsIn : List ℕ → Codecs
+codecsIn s = walk codecThen offence (allCodecs []) 0 s
+
+unfoldable pub codecListIn : List ℕ → Reading
+codecListIn s =
+    cond (eqb (length s) 0) wrong (onCodecs (codecsIn s) (λ cs. decoded (codecs cs)) (λ d. unrecognised (Inner d)))
+
+-- 11 signal: a 14, then at most one 15.
+unfoldable pub isType : Element → Bool
+isType e = eqb (e .identifier) 14 && rightType (e .contents)
+
+unfoldable pub isDuration : Element → Bool
+isDuration e = eqb (e .identifier) 15 && eqb (length (e .contents)) 2
+
+abbrev pub kindOf : Element → Kind
+kindOf e = record { compatibility = meant (e .compatibility); kind = octet 0 (e .contents) }
+
+abbrev pub lastingOf : Element → Lasting
+lastingOf e = lasting (meant (e .compatibility)) (durationOf (e .contents))
+
+-- behind the 14, which has d octets, and the 15 e comes t
+unfoldable pub lastBy : Kind → ℕ → Element → List ℕ → Reading
+lastBy k d e t =
+    cond (isDuration e)
+    (cond (eqb (length t) 0) (decoded (signal k (lastingOf e))) (unrecognised (Inner (d + length (whole e)))))
+    (unrecognised (Inner d))
+
+-- behind the 14, which has d octets, comes t
+unfoldable pub timedBy : Kind → ℕ → List ℕ → Reading
+timedBy k d t = onFront (front t) (lastBy k d) (unrecognised (Inner d)) (decoded (signal k untimed))
+
+unfoldable pub signalBy : Element → List ℕ → Reading
+signalBy e t = cond (isType e) (timedBy (kindOf e) (length (whole e)) t) (unrecognised (Inner 0))
+
+unfoldable pub signalIn : List ℕ → Reading
+signalIn s = onFront (front s) signalBy (unrecognised (Inner 0)) wrong
+
+-- ---- by identifier
+-- All else, national codes too, is unrecognised.
+unfoldable pub reading : ℕ → List ℕ → Reading
+reading i s =
+    cond (eqb i 1) (actionIn s)
+    (cond (eqb i 2) (backboneIn s)
+    (cond (eqb i 3) (addressIn s)
+    (cond (eqb i 4) (codecListIn s)
+    (cond (eqb i 5) (singleIn s)
+    (cond (eqb i 6) (reportIn s)
+    (cond (eqb i 7) (characteristicsIn s)
+    (cond (eqb i 8) (controlIn s)
+    (cond (eqb i 9) (tunnellingIn s)
+    (cond (eqb i 10) (unitIn s)
+    (cond (eqb i 11) (signalIn s)
+    (cond (eqb i 12) (capabilityIn s)
+    (cond (eqb i 13) (indicatorsIn s)
+    (cond (eqb i 14) (typeIn s)
+    (cond (eqb i 15) (durationIn s)
+    wrong))))))))))))))

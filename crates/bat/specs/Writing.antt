@@ -1,0 +1,132 @@
+-- Document 01, "Elements", on writing: the shortest length, ignored bits as 0, one compatibility octet with
+-- bit 8 set, a whole element of at most 2,048 octets. Numbers 5 and 4.
+use Prim.Native.Nat.{ℕ, suc, _+_, _/_, _%_}
+use mathlib.Core.Path.{_≡_}
+use mathlib.Core.List.{List, [], _∷_, _++_}
+use mathlib.Core.Bool.{Bool, true, false, _&&_, cond}
+use mathlib.Core.Option.{Option, none, some, Option·elim}
+use lib.ListN.{length, drop}
+use lib.Dec.{leb, ltb, eqb}
+use Rattle.codes.specs.Codes.{isAction, isSignal}
+use Rattle.bat.specs.declared.Put.{Put}
+use Rattle.bat.specs.declared.Put.the-variants.{Octets, Not}
+use Rattle.bat.specs.Framing.{mostOctets}
+use Rattle.bat.specs.Values.{Diagnostic, Codec, ListedCodec, Kind, Lasting, untimed, lasting, Value, action, backbone, address, codecs, single, report, characteristics, control, tunnelling, controlUnit, signal, capability, indicators, signalType, duration, rightCodec, rightIndicators}
+
+-- ---- an element's octets
+-- the shortest form of a length
+unfoldable pub sizeText : ℕ → List ℕ
+sizeText n = cond (ltb n 128) ((128 + n) ∷ []) (n % 128 ∷ (128 + n / 128) ∷ [])
+
+-- the element with identifier i, compatibility bits c and contents s
+unfoldable pub elementText : ℕ → ℕ → List ℕ → List ℕ
+elementText i c s = i ∷ (sizeText (suc (length s)) ++ ((128 + c) ∷ s))
+
+-- 0 or 1 as a bit
+abbrev pub bitText : Bool → ℕ
+bitText b = cond b 1 0
+
+-- sixteen bits, most significant first
+abbrev pub wordText : ℕ → List ℕ
+wordText n = n / 256 ∷ n % 256 ∷ []
+
+abbrev pub codecText : Codec → List ℕ
+codecText c = c .organisation ∷ c .information
+
+unfoldable pub codecsText : List ListedCodec → List ℕ
+codecsText [] = []
+codecsText (c ∷ cs) = elementText 5 (c .compatibility) (codecText (c .codec)) ++ codecsText cs
+
+unfoldable pub diagnosticsText : List Diagnostic → List ℕ
+diagnosticsText [] = []
+diagnosticsText (d ∷ ds) = d .identifier ∷ (wordText (d .index) ++ diagnosticsText ds)
+
+unfoldable pub lastingText : Lasting → List ℕ
+lastingText untimed = []
+lastingText (lasting c n) = elementText 15 c (wordText n)
+
+-- ---- identifier, contents and ranges of a value
+unfoldable pub identifierOf : Value → ℕ
+identifierOf (action n) = 1
+identifierOf (backbone s) = 2
+identifierOf (address s) = 3
+identifierOf (codecs cs) = 4
+identifierOf (single c) = 5
+identifierOf (report r ds) = 6
+identifierOf (characteristics n) = 7
+identifierOf (control s) = 8
+identifierOf (tunnelling b) = 9
+identifierOf (controlUnit n l) = 10
+identifierOf (signal k t) = 11
+identifierOf (capability b) = 12
+identifierOf (indicators s) = 13
+identifierOf (signalType n) = 14
+identifierOf (duration n) = 15
+
+unfoldable pub contentsText : Value → List ℕ
+contentsText (action n) = n ∷ []
+contentsText (backbone s) = s
+contentsText (address s) = s
+contentsText (codecs cs) = codecsText cs
+contentsText (single c) = codecText c
+contentsText (report r ds) = r ∷ diagnosticsText ds
+contentsText (characteristics n) = n ∷ []
+contentsText (control s) = s
+contentsText (tunnelling b) = bitText b ∷ []
+contentsText (controlUnit n l) = length n ∷ (n ++ l)
+contentsText (signal k t) = elementText 14 (k .compatibility) (k .kind ∷ []) ++ lastingText t
+contentsText (capability b) = (128 + bitText b) ∷ []
+contentsText (indicators s) = s
+contentsText (signalType n) = n ∷ []
+contentsText (duration n) = wordText n
+
+unfoldable pub allCodecsRight : List ListedCodec → Bool
+allCodecsRight [] = true
+allCodecsRight (c ∷ cs) = rightCodec (c .codec) && allCodecsRight cs
+
+-- every field is in the range in which it is decoded
+unfoldable pub inRange : Value → Bool
+inRange (action n) = isAction n
+inRange (backbone s) = leb 1 (length s) && leb (length s) 4
+inRange (address s) = leb 1 (length s) && leb (length s) 20
+inRange (codecs cs) = leb 1 (length cs) && allCodecsRight cs
+inRange (single c) = rightCodec c
+inRange (report r ds) = true
+inRange (characteristics n) = leb n 4
+inRange (control s) = leb 1 (length s)
+inRange (tunnelling b) = true
+inRange (controlUnit n l) = leb (length n) 255 && leb 1 (length l)
+inRange (signal k t) = isSignal (k .kind)
+inRange (capability b) = true
+inRange (indicators s) = rightIndicators s
+inRange (signalType n) = isSignal n
+inRange (duration n) = true
+
+-- the octets of a value's element, with compatibility bits c
+unfoldable pub valueText : ℕ → Value → List ℕ
+valueText c v = elementText (identifierOf v) c (contentsText v)
+
+-- ---- what a writer answers, and what it leaves in the buffer
+-- the octets to write: none where a field is out of range or the element is too long
+unfoldable pub octetsOf : ℕ → Value → Option (List ℕ)
+octetsOf c v = cond (inRange v && leb (length (valueText c v)) mostOctets) (some (valueText c v)) none
+
+-- the same where there may be no value at all
+unfoldable pub octetsIn : ℕ → Option Value → Option (List ℕ)
+octetsIn c none = none
+octetsIn c (some v) = octetsOf c v
+
+-- 5, then 4
+unfoldable pub putAnswer : ℕ → Option (List ℕ) → Put
+putAnswer room none = Not 5
+putAnswer room (some t) = cond (ltb room (length t)) (Not 4) (Octets (length t))
+
+-- a refusal leaves the buffer as it was, and else the octets past those written stay
+unfoldable pub putLeaves : List ℕ → Option (List ℕ) → List ℕ
+putLeaves l none = l
+putLeaves l (some t) = cond (ltb (length l) (length t)) l (t ++ drop (length t) l)
+
+-- The call to write these octets, if there are any, into the buffer l answers r and leaves f in it.
+pub record Puts (t : Option (List ℕ)) (l : List ℕ) (r : Put) (f : List ℕ) : Type 0 where
+  pub answers : r ≡ putAnswer (length l) t
+  pub leaves : f ≡ putLeaves l t

@@ -1,0 +1,134 @@
+// Q.765.5 elements: what the functions of this crate and of those above it take and answer, as
+// numbers, enums and spans by value. A span is a place in a slice that stands beside it: the octets
+// lent, or an element's contents.
+pub mod framing;
+pub mod judging;
+pub mod ranges;
+
+use octets::Span;
+
+// A length field: the number, and how many octets it takes.
+pub enum Size {
+    Of(u16, u8),
+    Missing,
+}
+
+// An element at the front of a slice. Behind its identifier stand `size` octets of length, the first
+// compatibility octet, `extension` more of them, and `length` octets of contents.
+pub struct Frame {
+    pub identifier: u8,
+    pub size: u8,
+    pub compatibility: u8,
+    pub extension: u16,
+    pub length: u16,
+}
+
+// What stands at the front of a slice.
+pub enum Framed {
+    Whole(Frame),
+    Unframed,
+    Ended,
+}
+
+// How many elements application data has, or the number that refuses it.
+pub enum Counted {
+    Elements(usize),
+    Refused(u8),
+}
+
+// A single codec: its organisation, and the octets behind it.
+pub struct Codec {
+    pub organisation: u8,
+    pub information: Span,
+}
+
+// The signal type inside a signal, with its own compatibility octet.
+pub struct Typed {
+    pub compatibility: u8,
+    pub kind: u8,
+}
+
+// The duration inside a signal, with its own compatibility octet.
+pub enum Timed {
+    Untimed,
+    Lasting { compatibility: u8, duration: u16 },
+}
+
+// The value of a decoded element. A span is a place in the element's contents.
+pub enum Value {
+    Action(u8),
+    Backbone(Span),
+    Address(Span),
+    Codecs(Span),
+    Single(Codec),
+    Report { reason: u8, diagnostics: Span },
+    Characteristics(u8),
+    Control(Span),
+    Tunnelling(bool),
+    Unit { network: Span, local: Span },
+    Signal { kind: Typed, duration: Timed },
+    Capability(bool),
+    Indicators(Span),
+    SignalType(u8),
+    Duration(u16),
+}
+
+// Where an unrecognised element is at fault: itself, or first in the inner element whose identifier
+// stands at this place of its contents.
+pub enum Place {
+    Itself,
+    Inner(usize),
+}
+
+// What an element's contents are read as.
+pub enum Reading {
+    Decoded(Value),
+    Unrecognised(Place),
+}
+
+// What an unrecognised element asks for.
+pub enum Outcome {
+    PassOn,
+    DiscardElement,
+    DiscardData,
+    Release,
+}
+
+// An element, and the octet in it, that a compatibility report names.
+pub struct Diagnostic {
+    pub identifier: u8,
+    pub index: usize,
+}
+
+// What is made of an unrecognised element: its outcome, whether notice is asked, and its diagnostic.
+pub struct Judged {
+    pub outcome: Outcome,
+    pub notice: bool,
+    pub diagnostic: Diagnostic,
+}
+
+// What is made of an element.
+pub enum Verdict {
+    Recognised(Value),
+    Unknown(Judged),
+}
+
+// What is made of application data as a whole.
+pub enum DataOutcome {
+    Neither,
+    DiscardAll,
+    ReleaseAll,
+}
+
+// The answer to application data: the number that refuses it, or how many elements it has and what
+// is made of it as a whole.
+pub enum DataAnswer {
+    Turned(u8),
+    Taken { count: usize, outcome: DataOutcome },
+}
+
+// A writer's answer: how many octets it wrote, or the number that refuses the call.
+pub enum Put {
+    Octets(usize),
+    Not(u8),
+}

@@ -1,0 +1,20 @@
+-- Each table as a whole: the runs of true and false that the rule makes over 256 codes. Both sides compute to the same list.
+-- Assumes nothing.
+use mathlib.Core.Path.{_≡_, refl}
+use mathlib.Core.Bool.{true, false}
+use mathlib.Core.List.{_++_}
+use lib.ListN.{replicate}
+use Rattle.codes.specs.Codes.{isAction, isIndicator, isSignal}
+use Rattle.codes.proofs.TableLaws.{valuesFrom}
+
+pub actions : valuesFrom isAction 0 256 ≡ replicate 25 true ++ replicate 231 false
+unfolding isAction
+actions = refl
+
+pub indicators : valuesFrom isIndicator 0 256 ≡ replicate 12 true ++ replicate 244 false
+unfolding isIndicator
+indicators = refl
+
+pub signals : valuesFrom isSignal 0 256 ≡ replicate 16 true ++ replicate 48 false ++ replicate 20 true ++ replicate 172 false
+unfolding isSignal
+signals = refl

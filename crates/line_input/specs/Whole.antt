@@ -1,0 +1,34 @@
+-- The lines of all the octets that were fed, in parts of any length.
+use Prim.Native.Nat.{ℕ}
+use mathlib.Core.Path.{_≡_}
+use mathlib.Core.List.{List, [], _∷_, _++_}
+use mathlib.Core.Bool.{Bool, cond}
+use lib.ListN.{length, take}
+use lib.Dec.{leb}
+use Rattle.octets.specs.Split.{splitOn}
+
+-- a line's text, or that it is too long
+pub data Text : Type 0 where
+  Held : List ℕ → Text
+  Over : Text
+
+-- the text t, as a buffer of cap octets can hold it
+unfoldable pub fit : ℕ → List ℕ → Text
+fit cap t = cond (leb (length t) cap) (Held t) Over
+
+-- each of the texts so
+unfoldable pub fitAll : ℕ → List (List ℕ) → List Text
+fitAll cap [] = []
+fitAll cap (t ∷ ts) = fit cap t ∷ fitAll cap ts
+
+-- what is held of a line: n octets of it are in the buffer l, or it is too long
+unfoldable pub held : List ℕ → ℕ → Bool → Text
+held l n over = cond over Over (Held (take n l))
+
+-- The octets s were fed to a buffer of cap octets. The lines that LF ended were handed out as ts, and of the one that is still open h is held.
+pub record Fed (cap : ℕ) (s : List ℕ) (ts : List Text) (h : Text) : Type 0 where
+  pub ended : List (List ℕ)
+  pub open-line : List ℕ
+  pub cut : splitOn 10 s ≡ ended ++ (open-line ∷ [])
+  pub handed : ts ≡ fitAll cap ended
+  pub holds : h ≡ fit cap open-line

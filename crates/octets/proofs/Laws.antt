@@ -1,0 +1,89 @@
+-- Laws of `put`, `answer` and `placed`, and of the list that is left at a position: they follow from what `take`, `drop` and `set` do to a list.
+-- Assumes nothing.
+use Prim.Native.Nat.{ℕ, zero, suc, _+_, _-_, _≤_, _<_}
+use mathlib.Core.Path.{_≡_, refl, sym, ap, _∙_}
+use mathlib.Core.List.{List, [], _∷_, _++_, append-nil, append-assoc}
+use lib.ListN.{length, getD, take, drop, set, length-append, length-take, length-drop, take-append-drop}
+use lib.Seq.{drop-cons, take-set-le, drop-set-lt, take-suc-set, drop-drop, length-take-le, take-nil, take-at, drop-at}
+use native.Mathlib.Nat.{add-zero, add-suc, suc-add, not-suc-le-zero, le-of-suc-le-suc, add-assoc, sub-zero}
+use native.Mathlib.Numerals.{add-one}
+use native.Mathlib.Omega.{arith}
+use borrow.Author.Tests.{le-leb, lt-leb}
+use Rattle.octets.specs.declared.Written.the-variants.{Next, NoRoom}
+use Rattle.octets.specs.Put.{put, room, placed, answer, Wrote}
+
+-- what is left at i is the octet there and what is left after it
+pub next : (s : List ℕ) (i : ℕ) → i < length s → drop i s ≡ getD s i 0 ∷ drop (i + 1) s
+next s i h = rw (add-one, drop-cons s i 0)
+
+-- the part of a front, as a front of the part
+pub drop-take : (a n : ℕ) (l : List ℕ) → drop a (take n l) ≡ take (n - a) (drop a l)
+drop-take zero n l = simp sub-zero
+drop-take (suc a) zero l = let z : 0 - suc a ≡ 0 = omega arith in rw z
+drop-take (suc a) (suc n) [] = sym (take-nil (suc n - suc a))
+drop-take (suc a) (suc n) (x ∷ l) = let z : suc n - suc a ≡ n - a = omega arith in rw z (drop-take a n l)
+
+-- nothing written
+pub put-nil : (l : List ℕ) (at : ℕ) → put l at [] ≡ l
+unfolding put
+put-nil l at = simp (add-zero, append-nil, take-append-drop)
+
+drop-set-here : (l : List ℕ) (i d : ℕ) → i < length l → drop i (set l i d) ≡ d ∷ drop (suc i) l
+drop-set-here [] i d h = absurd (not-suc-le-zero h)
+drop-set-here (x ∷ xs) zero d h = refl
+drop-set-here (x ∷ xs) (suc i) d h = drop-set-here xs i d (le-of-suc-le-suc h)
+
+-- one octet more at the right end
+pub put-snoc : (l : List ℕ) (at : ℕ) (vs : List ℕ) (d : ℕ) → at + length vs < length l → put l at (vs ++ (d ∷ [])) ≡ put (set l (at + length vs) d) at vs
+unfolding put
+put-snoc l at vs d h =
+    simp (append-assoc, length-append, add-one, add-suc, take-set-le at l (at + length vs) d (omega arith), drop-set-here l (at + length vs) d h)
+
+-- one octet more at the left end
+pub put-cons : (l : List ℕ) (at : ℕ) (d : ℕ) (vs : List ℕ) → at < length l → put l at (d ∷ vs) ≡ put (set l at d) (at + 1) vs
+unfolding put
+put-cons l at d vs h =
+    simp (append-assoc, add-one, add-suc, suc-add, take-suc-set l at d h, drop-set-lt (suc (at + length vs)) l at d (omega arith))
+
+pub length-put : (l : List ℕ) (at : ℕ) (vs : List ℕ) → at + length vs ≤ length l → length (put l at vs) ≡ length l
+unfolding put
+length-put l at vs h = simp (length-append, length-take, length-drop) (omega arith)
+
+append-behind : (a b ys : List ℕ) (n : ℕ) → length a ≡ n → take n (a ++ b) ++ ys ++ drop (n + length ys) (a ++ b) ≡ a ++ ys ++ drop (length ys) b
+append-behind a b ys n h = rw (take-at a b n h, ← drop-drop (length ys) n (a ++ b), drop-at a b n h)
+
+-- two texts, one behind the other
+pub put-append : (l xs ys : List ℕ) (at : ℕ) → at + length xs ≤ length l → put (put l at xs) (at + length xs) ys ≡ put l at (xs ++ ys)
+unfolding put
+put-append l xs ys at h =
+    let n = at + length xs in
+    let a = take at l ++ xs in
+    let la : length a ≡ n = length-append (take at l) xs ∙ ap (λ (z : ℕ). z + length xs) (length-take-le at l (omega arith)) in
+    append-behind a (drop n l) ys n la ∙ simp (append-assoc, length-append, drop-drop, add-assoc)
+
+pub answer-yes : (l : List ℕ) (at : ℕ) (vs : List ℕ) → at + length vs ≤ length l → Next (at + length vs) ≡ answer l at vs
+unfolding answer room
+answer-yes l at vs h = simp (le-leb (at + length vs) (length l) h)
+
+pub answer-no : (l : List ℕ) (at : ℕ) (vs : List ℕ) → length l < at + length vs → NoRoom ≡ answer l at vs
+unfolding answer room
+answer-no l at vs h = simp (lt-leb (at + length vs) (length l) h)
+
+pub placed-yes : (l : List ℕ) (at : ℕ) (vs : List ℕ) → at + length vs ≤ length l → put l at vs ≡ placed l at vs
+unfolding placed room
+placed-yes l at vs h = simp (le-leb (at + length vs) (length l) h)
+
+pub placed-no : (l : List ℕ) (at : ℕ) (vs : List ℕ) → length l < at + length vs → l ≡ placed l at vs
+unfolding placed room
+placed-no l at vs h = simp (lt-leb (at + length vs) (length l) h)
+
+-- A writer of w octets that tests `length l < w`, then `length l - w < at`, and then puts them.
+module _ (l : List ℕ) (at : ℕ) (vs : List ℕ) (w : ℕ) (e : length vs ≡ w) where
+  pub no-room : length l < w → Wrote l at vs NoRoom l
+  no-room h = record { answers = answer-no l at vs (omega arith); leaves = placed-no l at vs (omega arith) }
+
+  pub no-room-at : w ≤ length l → length l - w < at → Wrote l at vs NoRoom l
+  no-room-at h k = record { answers = answer-no l at vs (omega arith); leaves = placed-no l at vs (omega arith) }
+
+  pub did-put : (f : List ℕ) → w ≤ length l → at ≤ length l - w → f ≡ put l at vs → Wrote l at vs (Next (at + w)) f
+  did-put f h k p = record { answers = rw (← e) (answer-yes l at vs (omega arith)); leaves = p ∙ placed-yes l at vs (omega arith) }

@@ -1,0 +1,8 @@
+-- What the contracts of this crate speak of, a file for each subject.
+pub mod Split
+pub mod Put
+pub mod Append
+pub mod Decimal
+pub mod Hex
+pub mod Spans
+pub mod Words

@@ -1,0 +1,43 @@
+// Decimal numbers as text: without leading zeros, at most 65535.
+ghost use mathlib.Core.Path.{_≡_};
+ghost use Rattle.octets.specs.Decimal.{numberFrom, readNumber};
+use crate::Number;
+
+// The number that s's digits stand for, leading zeros or not.
+fn digits(s: &[u8]) -> Number
+    ensures { λ r. ⌜ r ≡ numberFrom 0 (now (s .entry)) ⌝ }
+{
+    let mut n: u32 = 0;
+    let mut i = 0;
+    while i < s.len() {
+        let b = s[i];
+        if b < 48 {
+            return Number::Bad;
+        }
+        if 57 < b {
+            return Number::Bad;
+        }
+        n = n * 10 + (b - 48) as u32;
+        if 65535 < n {
+            return Number::Bad;
+        }
+        i += 1;
+    }
+    Number::Value(n as u16)
+}
+
+// The number that all of s stands for.
+pub fn read_number(s: &[u8]) -> Number
+    ensures { λ r. ⌜ r ≡ readNumber (now (s .entry)) ⌝ }
+{
+    if s.len() == 0 {
+        return Number::Bad;
+    }
+    if s.len() < 2 {
+        return digits(s);
+    }
+    if s[0] == 48 {
+        return Number::Bad;
+    }
+    digits(s)
+}

@@ -1,0 +1,25 @@
+// What readers and writers of octets share: the parts of a text, appending to a buffer, decimal numbers, hexadecimal text, spans and words.
+pub mod append;
+pub mod decimal;
+pub mod hex;
+pub mod parts;
+pub mod spans;
+pub mod words;
+
+// A writer's answer: the position after what was written, or that there was no room.
+pub enum Written {
+    Next(usize),
+    NoRoom,
+}
+
+// What a text was read as: a number, or none.
+pub enum Number {
+    Value(u16),
+    Bad,
+}
+
+// A part of a text: where it starts, and how long it is.
+pub struct Span {
+    pub at: usize,
+    pub len: usize,
+}

@@ -1,0 +1,75 @@
+// Spans of a text. Every function answers for every span: one that lies outside the text stands for what of it lies inside.
+ghost use mathlib.Core.Path.{_≡_};
+ghost use lib.ListN.{take, drop};
+ghost use Rattle.octets.specs.Spans.{textOf};
+use crate::Span;
+
+// The text that sp stands for in m.
+pub fn text(m: &[u8], sp: Span) -> &[u8]
+    ensures { λ r. ⌜ now r ≡ textOf (now (m .entry)) sp ⌝ }
+{
+    let at = sp.at;
+    let len = sp.len;
+    if m.len() < at {
+        return &m[..0];
+    }
+    if m.len() - at < len {
+        return &m[at..];
+    }
+    let end = at + len;
+    &m[at..end]
+}
+
+// The span in m of what p stands for in the text of sp.
+pub fn inner(m: &[u8], sp: Span, p: Span) -> Span
+    ensures { λ r. ⌜ textOf (now (m .entry)) r ≡ textOf (textOf (now (m .entry)) sp) p ⌝ }
+{
+    let at = sp.at;
+    let len = sp.len;
+    let a = p.at;
+    let l = p.len;
+    if m.len() < at {
+        return Span { at: 0, len: 0 };
+    }
+    if m.len() - at < a {
+        return Span { at: 0, len: 0 };
+    }
+    if len < a {
+        return Span { at: 0, len: 0 };
+    }
+    if l <= len - a {
+        return Span { at: at + a, len: l };
+    }
+    Span {
+        at: at + a,
+        len: len - a,
+    }
+}
+
+// The span in m of the text of sp less its first n octets.
+pub fn skip(m: &[u8], sp: Span, n: usize) -> Span
+    ensures { λ r. ⌜ textOf (now (m .entry)) r ≡ drop n (textOf (now (m .entry)) sp) ⌝ }
+{
+    let len = sp.len;
+    inner(m, sp, Span { at: n, len: len })
+}
+
+// What of s stands behind its first n octets.
+pub fn after(s: &[u8], n: usize) -> &[u8]
+    ensures { λ r. ⌜ now r ≡ drop n (now (s .entry)) ⌝ }
+{
+    if s.len() < n {
+        return &s[0..0];
+    }
+    &s[n..]
+}
+
+// The first n octets of s, all of them where it has no more.
+pub fn up_to(s: &[u8], n: usize) -> &[u8]
+    ensures { λ r. ⌜ now r ≡ take n (now (s .entry)) ⌝ }
+{
+    if s.len() < n {
+        return s;
+    }
+    &s[0..n]
+}
