@@ -39,12 +39,18 @@ module _ (s : List ℕ) (x : Framed) (is : frontIn s x ≡ some (front s)) where
   unfolding frontIn
   frame-unframed e = let p : some unframed ≡ some (front s) = rw e at is in cc
 
+  pub frame-is : (f : Frame) → x ≡ Whole f → front s ≡ first (elementIn s f) (drop (wholeOf f) s)
+  frame-is f e = whole-in s f (front s) (rw e at is) .1
+
+  pub frame-fits : (f : Frame) → x ≡ Whole f → wholeOf f ≤ length s
+  frame-fits f e = whole-in s f (front s) (rw e at is) .0
+
   module _ (f : Frame) (e : x ≡ Whole f) (w : ℕ) (l : WholeLength f w) where
     pub frame-inside : w ≤ length s
-    frame-inside = omega (arith, whole-in s f (front s) (rw e at is) .0, l .is)
+    frame-inside = omega (arith, frame-fits f e, l .is)
 
     pub frame-first : front s ≡ first (elementIn s f) (drop w s)
-    frame-first = whole-in s f (front s) (rw e at is) .1 ∙ rw (l .is)
+    frame-first = frame-is f e ∙ rw (l .is)
 
     -- its length is that of its octets
     pub frame-length : w ≡ length (whole (elementIn s f))

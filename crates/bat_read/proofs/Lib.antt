@@ -1,0 +1,7 @@
+-- The laws of reading and judging elements.
+pub mod SimpleLaws
+pub mod ConstructorLaws
+pub mod ReadLaws
+pub mod InnerLaws
+pub mod VerdictLaws
+pub mod OutcomeLaws

@@ -1,0 +1,307 @@
+-- The data's outcome is the gravest that its elements ask, taken from one element to the next.
+-- Assumes nothing.
+use Prim.Native.Nat.{ℕ, suc, _+_, _-_, _^_, _≤_, _<_, max}
+use mathlib.Core.Path.{_≡_, refl, sym, ap, _∙_}
+use mathlib.Core.List.{List, [], _∷_, map}
+use mathlib.Core.Bool.{Bool, true, false, _||_, cond}
+use mathlib.Core.Option.{Option, none, some, Option·map, Option·elim}
+use lib.ListN.{length, drop, length-drop, length-map, drop-of-length-le}
+use lib.Seq.{drop-drop}
+use lib.Dec.{leb, ltb, eqb}
+use mir.Syntax.{w64}
+use mir.Val.{Fits}
+use native.Mathlib.Omega.{arith}
+use borrow.Author.Tests.{le-leb, lt-leb, lt-ltb, le-ltb}
+use Rattle.octets.proofs.CaseLaws.{by-le, by-lt}
+use Rattle.bat.specs.declared.Frame.{Frame}
+use Rattle.bat.specs.declared.Framed.the-variants.{Whole}
+use Rattle.bat.specs.declared.Counted.{Counted}
+use Rattle.bat.specs.declared.Counted.the-variants.{Elements, Refused}
+use Rattle.bat.specs.declared.Outcome.{Outcome}
+use Rattle.bat.specs.declared.Outcome.the-variants.{PassOn, DiscardElement, DiscardData, Release}
+use Rattle.bat.specs.declared.Judged.{Judged}
+use Rattle.bat.specs.declared.Value.{Value as ValuePlace}
+use Rattle.bat.specs.declared.Verdict.{Verdict as VerdictPlace}
+use Rattle.bat.specs.declared.Verdict.the-variants.{Recognised, Unknown}
+use Rattle.bat.specs.declared.DataOutcome.{DataOutcome}
+use Rattle.bat.specs.declared.DataOutcome.the-variants.{Neither, DiscardAll, ReleaseAll}
+use Rattle.bat.specs.declared.DataAnswer.the-variants.{Turned, Taken}
+use Rattle.bat.specs.Framing.{Element, whole, Front, front, first, unframed, ended, onFront, walk, elements, Cut, refused, taken, mostOctets, roomFor, cut}
+use Rattle.bat.specs.Values.{Value}
+use Rattle.bat.specs.Judging.{Judgement, Verdict, known, unknown, verdict, says, someSays, dataOutcome, turned, judged, judgedBy, judgedData}
+use Rattle.bat.specs.Meaning.{wholeOf, elementIn, frontIn, WholeLength, valueIn, outcomeNumber, judgementIn, verdictIn, dataNumber, toldBy, toldOf, countOf}
+use Rattle.bat.proofs.WalkLaws.{front-nil, walk-ended, walk-unframed, walk-first, by-front}
+use Rattle.bat.proofs.CountLaws.{elements-ended, elements-unframed, elements-first, place-inside, place-fits, place-falls}
+use Rattle.bat_read.specs.declared.Examined.{Examined}
+use Rattle.bat_read.specs.declared.Examined.the-variants.{Element as ElementAt, Unframed as NoFrame, Ended as NoMore}
+use Rattle.bat_read.specs.Examining.{Examination, element, noFrame, noMore, examine, examinedIn, asked, askedIn, askedBy, gravest}
+
+-- ---- what one element asks
+pub asks-known : (v : VerdictPlace) (w : ValuePlace) → v ≡ Recognised w → dataNumber Neither ≡ askedIn v
+unfolding dataNumber askedIn
+asks-known v w e = rw e
+
+module _ (v : VerdictPlace) (j : Judged) (e : v ≡ Unknown j) where
+  pub asks-pass : j .outcome ≡ PassOn → dataNumber Neither ≡ askedIn v
+  unfolding dataNumber askedIn outcomeNumber
+  asks-pass o = rw (e, o)
+
+  pub asks-element : j .outcome ≡ DiscardElement → dataNumber Neither ≡ askedIn v
+  unfolding dataNumber askedIn outcomeNumber
+  asks-element o = rw (e, o)
+
+  pub asks-data : j .outcome ≡ DiscardData → dataNumber DiscardAll ≡ askedIn v
+  unfolding dataNumber askedIn outcomeNumber
+  asks-data o = rw (e, o)
+
+  pub asks-release : j .outcome ≡ Release → dataNumber ReleaseAll ≡ askedIn v
+  unfolding dataNumber askedIn outcomeNumber
+  asks-release o = rw (e, o)
+
+pub ruleset asking = (asks-known, asks-pass, asks-element, asks-data, asks-release)
+
+-- the same of the verdict that it stands for
+known-asks : (o : Option Value) (w : Verdict) → Option·map known o ≡ some w → 0 ≡ askedBy w
+unfolding askedBy
+known-asks none w p = absurd (let z : _≡_ {A = ℕ} 0 1 = cc in omega arith)
+known-asks (some v) w p = let q : known v ≡ w = cc in rw (← q)
+
+unknown-asks : (j : Judged) → asked (outcomeNumber (j .outcome)) ≡ askedBy (unknown (judgementIn j))
+unfolding askedBy judgementIn
+unknown-asks j = refl
+
+asked-is : (s : List ℕ) (v : VerdictPlace) (w : Verdict) → verdictIn s v ≡ some w → askedIn v ≡ askedBy w
+unfolding verdictIn askedIn
+asked-is s (Recognised x) w p = known-asks (valueIn s x) w p
+asked-is s (Unknown j) w p = let q : unknown (judgementIn j) ≡ w = cc in rw (← q) (unknown-asks j)
+
+-- ---- the graver of two
+most : (a : DataOutcome) → dataNumber a ≤ 3
+unfolding dataNumber
+most Neither = omega arith
+most DiscardAll = omega arith
+most ReleaseAll = omega arith
+
+module _ (a b : DataOutcome) where
+  pub graver-release : a ≡ ReleaseAll → dataNumber a ≡ max (dataNumber a) (dataNumber b)
+  unfolding dataNumber
+  graver-release e = rw e (omega (arith, most b))
+
+  pub graver-neither : a ≡ Neither → dataNumber b ≡ max (dataNumber a) (dataNumber b)
+  unfolding dataNumber
+  graver-neither e = rw e (omega arith)
+
+  module _ (e : a ≡ DiscardAll) where
+    pub graver-second : b ≡ ReleaseAll → dataNumber b ≡ max (dataNumber a) (dataNumber b)
+    unfolding dataNumber
+    graver-second h = rw (e, h)
+
+    pub graver-same : b ≡ DiscardAll → dataNumber b ≡ max (dataNumber a) (dataNumber b)
+    unfolding dataNumber
+    graver-same h = rw (e, h)
+
+    pub graver-first : b ≡ Neither → dataNumber a ≡ max (dataNumber a) (dataNumber b)
+    unfolding dataNumber
+    graver-first h = rw (e, h)
+
+pub ruleset graver = (graver-release, graver-neither, graver-second, graver-same, graver-first)
+
+-- ---- the data's outcome is the gravest
+gravest-says : (a b c d : Bool) → cond (a || c) 3 (cond (b || d) 2 0) ≡ max (cond a 3 (cond b 2 0)) (cond c 3 (cond d 2 0))
+gravest-says true b true d = refl
+gravest-says true b false true = refl
+gravest-says true b false false = refl
+gravest-says false true true d = refl
+gravest-says false true false true = refl
+gravest-says false true false false = refl
+gravest-says false false true d = refl
+gravest-says false false false true = refl
+gravest-says false false false false = refl
+
+asked-says : (w : Verdict) → askedBy w ≡ cond (says 3 w) 3 (cond (says 2 w) 2 0)
+unfolding askedBy says
+asked-says (known v) = refl
+asked-says (unknown j) = refl
+
+outcome-cons : (w : Verdict) (ws : List Verdict) → dataOutcome (w ∷ ws) ≡ max (askedBy w) (dataOutcome ws)
+unfolding dataOutcome someSays
+outcome-cons w ws = gravest-says (says 3 w) (says 2 w) (someSays 3 ws) (someSays 2 ws) ∙ rw (asked-says w)
+
+nil-outcome : 0 ≡ dataOutcome []
+unfolding dataOutcome someSays
+nil-outcome = refl
+
+module _ (pass : Bool) where
+  abbrev gravestAt : ℕ → List ℕ → ℕ
+  gravestAt d s = walk (λ e d n. max (askedBy (verdict pass e)) n) (λ d. 0) 0 d s
+
+  gravest-at : (s : List ℕ) (d : ℕ) → gravestAt d s ≡ gravest pass s
+  unfolding gravest
+  gravest-at =
+      by-front (λ (s : List ℕ). (d : ℕ) → gravestAt d s ≡ gravestAt 0 s)
+      (λ d. walk-ended (λ e d n. max (askedBy (verdict pass e)) n) (λ d. 0) 0 d [] front-nil ∙ sym (walk-ended (λ e d n. max (askedBy (verdict pass e)) n) (λ d. 0) 0 0 [] front-nil))
+      (λ s q d. walk-unframed (λ e d n. max (askedBy (verdict pass e)) n) (λ d. 0) 0 d s q ∙ sym (walk-unframed (λ e d n. max (askedBy (verdict pass e)) n) (λ d. 0) 0 0 s q))
+      (λ s e t q ih d.
+      walk-first (λ e d n. max (askedBy (verdict pass e)) n) (λ d. 0) 0 d s e t q
+      ∙ ap (λ (n : ℕ). max (askedBy (verdict pass e)) n) (ih (d + length (whole e)) ∙ sym (ih (0 + length (whole e))))
+      ∙ sym (walk-first (λ e d n. max (askedBy (verdict pass e)) n) (λ d. 0) 0 0 s e t q))
+
+  gravest-first : (s : List ℕ) (e : Element) (t : List ℕ) → front s ≡ first e t → gravest pass s ≡ max (askedBy (verdict pass e)) (gravest pass t)
+  unfolding gravest
+  gravest-first s e t q =
+      walk-first (λ e d n. max (askedBy (verdict pass e)) n) (λ d. 0) 0 0 s e t q ∙ ap (λ (n : ℕ). max (askedBy (verdict pass e)) n) (gravest-at t (0 + length (whole e)))
+
+  gravest-ended : (s : List ℕ) → front s ≡ ended → gravest pass s ≡ 0
+  unfolding gravest
+  gravest-ended s q = walk-ended (λ e d n. max (askedBy (verdict pass e)) n) (λ d. 0) 0 0 s q
+
+  gravest-unframed : (s : List ℕ) → front s ≡ unframed → gravest pass s ≡ 0
+  unfolding gravest
+  gravest-unframed s q = walk-unframed (λ e d n. max (askedBy (verdict pass e)) n) (λ d. 0) 0 0 s q
+
+  -- of data that can be framed it is the outcome
+  gravest-outcome : (s : List ℕ) (es : List Element) → elements s ≡ some es → gravest pass s ≡ dataOutcome (map (verdict pass) es)
+  gravest-outcome =
+      by-front (λ (s : List ℕ). (es : List Element) → elements s ≡ some es → gravest pass s ≡ dataOutcome (map (verdict pass) es))
+      (λ es p. let q : _≡_ {A = List Element} [] es = cc (elements-ended [] front-nil) in gravest-ended [] front-nil ∙ rw (← q) nil-outcome)
+      (λ s q es p. absurd (let n = elements-unframed s q in let z : _≡_ {A = ℕ} 0 1 = cc in omega arith))
+      (λ s e t q ih es p. gravest-first s e t q ∙ outcome-with e t (elements t) es ih refl (sym (elements-first s e t q) ∙ p))
+    where
+      outcome-with : (e : Element) (t : List ℕ) (o : Option (List Element)) (es : List Element) → ((r : List Element) → elements t ≡ some r → gravest pass t ≡ dataOutcome (map (verdict pass) r)) → elements t ≡ o
+          → Option·map (λ (r : List Element). e ∷ r) o ≡ some es → max (askedBy (verdict pass e)) (gravest pass t) ≡ dataOutcome (map (verdict pass) es)
+      outcome-with e t none es ih q p = absurd (let z : _≡_ {A = ℕ} 0 1 = cc in omega arith)
+      outcome-with e t (some r) es ih q p =
+          let k : e ∷ r ≡ es = cc in
+          rw (← k, ih r q) (sym (outcome-cons (verdict pass e) (map (verdict pass) r)))
+
+-- ---- what the front was examined as
+module _ (pass : Bool) where
+  on-element : (g : Front) (e : Element) (w : Verdict) (u : List ℕ) → element e w u ≡ onFront g (λ e t. element e (verdict pass e) t) noFrame noMore → (g ≡ first e u) × (w ≡ verdict pass e)
+  unfolding onFront
+  on-element (first d t) e w u p =
+      let ed : e ≡ d = cc in
+      let ut : u ≡ t = cc in
+      let wv : w ≡ verdict pass d = cc in
+      rw (ed, ut) (refl, wv)
+  on-element unframed e w u p = absurd (let z : _≡_ {A = ℕ} 0 1 = cc in omega arith)
+  on-element ended e w u p = absurd (let z : _≡_ {A = ℕ} 0 1 = cc in omega arith)
+
+  on-unframed : (g : Front) → noFrame ≡ onFront g (λ e t. element e (verdict pass e) t) noFrame noMore → g ≡ unframed
+  unfolding onFront
+  on-unframed (first d t) p = absurd (let z : _≡_ {A = ℕ} 0 1 = cc in omega arith)
+  on-unframed unframed p = refl
+  on-unframed ended p = absurd (let z : _≡_ {A = ℕ} 0 1 = cc in omega arith)
+
+  on-ended : (g : Front) → noMore ≡ onFront g (λ e t. element e (verdict pass e) t) noFrame noMore → g ≡ ended
+  unfolding onFront
+  on-ended (first d t) p = absurd (let z : _≡_ {A = ℕ} 0 1 = cc in omega arith)
+  on-ended unframed p = absurd (let z : _≡_ {A = ℕ} 0 1 = cc in omega arith)
+  on-ended ended p = refl
+
+  seen-by : (t : List ℕ) (f : Frame) (v : VerdictPlace) (o : Option Verdict) → verdictIn (elementIn t f .contents) v ≡ o
+      → Option·map (λ (w : Verdict). element (elementIn t f) w (drop (wholeOf f) t)) o ≡ some (examine pass t)
+      → (front t ≡ first (elementIn t f) (drop (wholeOf f) t)) × (verdictIn (elementIn t f .contents) v ≡ some (verdict pass (elementIn t f)))
+  unfolding examine
+  seen-by t f v none q p = absurd (let z : _≡_ {A = ℕ} 0 1 = cc in omega arith)
+  seen-by t f v (some w) q p =
+      let k : element (elementIn t f) w (drop (wholeOf f) t) ≡ onFront (front t) (λ e t. element e (verdict pass e) t) noFrame noMore = cc in
+      let (g, h) = on-element (front t) (elementIn t f) w (drop (wholeOf f) t) k in
+      (g, q ∙ rw h)
+
+  module _ (t : List ℕ) (x : Examined) (is : examinedIn t x ≡ some (examine pass t)) where
+    seen-ended : x ≡ NoMore → front t ≡ ended
+    unfolding examinedIn examine
+    seen-ended e = let p : some noMore ≡ some (examine pass t) = rw e at is in on-ended (front t) (cc)
+
+    seen-unframed : x ≡ NoFrame → front t ≡ unframed
+    unfolding examinedIn examine
+    seen-unframed e = let p : some noFrame ≡ some (examine pass t) = rw e at is in on-unframed (front t) (cc)
+
+    module _ (f : Frame) (v : VerdictPlace) (e : x ≡ ElementAt f v) where
+      seen : (wholeOf f ≤ length t) × (front t ≡ first (elementIn t f) (drop (wholeOf f) t)) × (verdictIn (elementIn t f .contents) v ≡ some (verdict pass (elementIn t f)))
+      unfolding examinedIn
+      seen =
+          let p = rw e at is in
+          by-le (wholeOf f) (length t) _
+          (λ h. let (a, b) = seen-by t f v (verdictIn (elementIn t f .contents) v) refl (rw (le-leb (wholeOf f) (length t) h) at p) in (h, a, b))
+          (λ h. let q : none ≡ some (examine pass t) = rw (lt-leb (wholeOf f) (length t) h) at p in absurd (let z : _≡_ {A = ℕ} 0 1 = cc in omega arith))
+
+      seen-front : frontIn t (Whole f) ≡ some (front t)
+      unfolding frontIn
+      seen-front = rw (le-leb (wholeOf f) (length t) (seen .0), seen .1)
+
+  -- ---- from one element of the data to the next
+  -- at the place `at` of the data, where those before it come to n; y is what all come to
+  module _ (s : List ℕ) (n at y : ℕ) (inv : max n (gravest pass (drop at s)) ≡ y) where
+    pub outcome-end : length s ≤ at → n ≡ y
+    outcome-end h =
+        let z : max n (gravest pass []) ≡ y = rw (drop-of-length-le s {i = at} h) at inv in
+        omega (arith, gravest-ended pass [] front-nil)
+
+    module _ (t : List ℕ) (here : t ≡ drop at s) (x : Examined) (is : examinedIn t x ≡ some (examine pass t)) where
+      here-is : max n (gravest pass t) ≡ y
+      here-is = rw (← here) at inv
+
+      pub outcome-ended : x ≡ NoMore → n ≡ y
+      outcome-ended e = omega (arith, here-is, gravest-ended pass t (seen-ended t x is e))
+
+      pub outcome-unframed : x ≡ NoFrame → n ≡ y
+      outcome-unframed e = omega (arith, here-is, gravest-unframed pass t (seen-unframed t x is e))
+
+      module _ (f : Frame) (v : VerdictPlace) (e : x ≡ ElementAt f v) (w : ℕ) (l : WholeLength f w) where
+        pub outcome-more : (a m : ℕ) → a ≡ askedIn v → m ≡ max n a → max m (gravest pass (drop (at + w) s)) ≡ y
+        outcome-more a m k q =
+            let next : front t ≡ first (elementIn t f) (drop w t) = seen t x is f v e .1 ∙ rw (l .is) in
+            let g = gravest-first pass t (elementIn t f) (drop w t) next in
+            let b : a ≡ askedBy (verdict pass (elementIn t f)) = k ∙ asked-is (elementIn t f .contents) v (verdict pass (elementIn t f)) (seen t x is f v e .2) in
+            rw (← drop-drop w at s, ← here) (omega (arith, here-is, g, b, q))
+
+        pub outcome-fits : at < length s → length s < 2 ^ 64 → Fits w64 (at + w)
+        outcome-fits h k = place-fits s at t here (Whole f) (seen-front t x is f v e) f refl w l h k
+
+        pub outcome-falls : at < length s → length s - (at + w) < length s - at
+        outcome-falls h = place-falls s at t here (Whole f) (seen-front t x is f v e) f refl w l h
+
+pub ruleset outcomes = (outcome-end, outcome-ended, outcome-unframed, outcome-more)
+
+-- ---- the answer to the data
+cut-taken : (entries : ℕ) (s : List ℕ) (o : Option (List Element)) (es : List Element) → elements s ≡ o → cut entries s ≡ taken es → elements s ≡ some es
+unfolding cut roomFor Option·elim
+cut-taken entries s o es q p =
+    by-lt mostOctets (length s) _
+    (λ h. let z : refused 1 ≡ taken es = rw (lt-ltb mostOctets (length s) h) at p in absurd (let z : _≡_ {A = ℕ} 0 1 = cc in omega arith))
+    (λ h. q ∙ go o (rw (le-ltb mostOctets (length s) h, q) at p))
+  where
+    go : (o : Option (List Element)) → Option·elim o (refused 2) (roomFor entries) ≡ taken es → o ≡ some es
+    go none p = absurd (let z : _≡_ {A = ℕ} 0 1 = cc in omega arith)
+    go (some fs) p =
+        by-lt entries (length fs) _
+        (λ h. let z : refused 3 ≡ taken es = rw (lt-ltb entries (length fs) h) at p in absurd (let z : _≡_ {A = ℕ} 0 1 = cc in omega arith))
+        (λ h. let z : taken fs ≡ taken es = rw (le-ltb entries (length fs) h) at p in let k : fs ≡ es = cc in rw k)
+
+module _ (s : List ℕ) (entries : ℕ) (pass : Bool) (y : Counted) (is : y ≡ countOf (cut entries s)) where
+  told-by : (x : Cut) → cut entries s ≡ x → toldOf (judgedData pass entries s) ≡ toldOf (judgedBy pass x)
+  unfolding judgedData
+  told-by x e = rw e
+
+  pub told-refused : (n : ℕ) → y ≡ Refused n → toldBy (Turned n) ≡ toldOf (judgedData pass entries s)
+  unfolding toldBy toldOf judgedBy countOf
+  told-refused n e = go (cut entries s) refl
+    where
+      go : (x : Cut) → cut entries s ≡ x → toldBy (Turned n) ≡ toldOf (judgedData pass entries s)
+      go (refused m) q = let k : y ≡ Refused m = rw q at is in let z : n ≡ m = cc in rw z (sym (told-by (refused m) q))
+      go (taken es) q = let k : y ≡ Elements (length es) = rw q at is in absurd (let z : _≡_ {A = ℕ} 0 1 = cc in omega arith)
+
+  pub told-taken : (n : ℕ) (o : DataOutcome) → y ≡ Elements n → dataNumber o ≡ gravest pass s → toldBy (Taken n o) ≡ toldOf (judgedData pass entries s)
+  unfolding toldBy toldOf judgedBy countOf
+  told-taken n o e g = go (cut entries s) refl
+    where
+      go : (x : Cut) → cut entries s ≡ x → toldBy (Taken n o) ≡ toldOf (judgedData pass entries s)
+      go (refused m) q = let k : y ≡ Refused m = rw q at is in absurd (let z : _≡_ {A = ℕ} 0 1 = cc in omega arith)
+      go (taken es) q =
+          let k : y ≡ Elements (length es) = rw q at is in
+          let z : n ≡ length es = cc in
+          let a : dataNumber o ≡ dataOutcome (map (verdict pass) es) = g ∙ gravest-outcome pass s es (cut-taken entries s (elements s) es refl q) in
+          rw (z, a, ← length-map es (verdict pass)) (sym (told-by (taken es) q))
+
+pub ruleset telling = (told-refused, told-taken)

@@ -1,0 +1,140 @@
+-- What is made of an element follows from how its contents are read, and what is made of the data from its elements.
+-- Assumes nothing.
+use Prim.Native.Nat.{ℕ, suc, _+_, _-_, _^_, _≤_, _<_, max}
+use mathlib.Core.Path.{_≡_, refl, sym, ap, _∙_}
+use mathlib.Core.List.{List, [], _∷_, map}
+use mathlib.Core.Bool.{Bool, true, false, _||_, cond}
+use mathlib.Core.Option.{Option, none, some, Option·map, Option·elim}
+use lib.ListN.{length, take, drop, length-append, length-take, length-drop, length-map, drop-of-length-le}
+use lib.Seq.{drop-drop}
+use lib.Dec.{leb, ltb, eqb}
+use mir.Syntax.{w64}
+use mir.Val.{Fits}
+use native.Mathlib.Omega.{arith}
+use borrow.Author.Tests.{le-leb}
+use Rattle.bat.specs.declared.Frame.{Frame}
+use Rattle.bat.specs.declared.Framed.{Framed}
+use Rattle.bat.specs.declared.Framed.the-variants.{Whole, Unframed, Ended}
+use Rattle.bat.specs.declared.Place.{Place}
+use Rattle.bat.specs.declared.Place.the-variants.{Itself, Inner}
+use Rattle.bat.specs.declared.Value.{Value as ValuePlace}
+use Rattle.bat.specs.declared.Reading.{Reading as ReadingPlace}
+use Rattle.bat.specs.declared.Reading.the-variants.{Decoded, Unrecognised}
+use Rattle.bat.specs.declared.Judged.{Judged}
+use Rattle.bat.specs.declared.Verdict.{Verdict as VerdictPlace}
+use Rattle.bat.specs.declared.Verdict.the-variants.{Recognised, Unknown}
+use Rattle.bat.specs.Framing.{Element, head, whole, Front, front, first, unframed, ended, onFront}
+use Rattle.bat.specs.Values.{Value, Reading, decoded, unrecognised, reading}
+use Rattle.bat.specs.Judging.{indexBy, judgement, Verdict, known, unknown, verdictBy, verdict}
+use Rattle.bat.specs.Meaning.{headOf, wholeOf, elementIn, frontIn, HeadLength, valueIn, readingIn, judgementIn, verdictIn}
+use Rattle.bat.proofs.WalkLaws.{front-size, size-small}
+use Rattle.bat.proofs.CountLaws.{frame-is, frame-fits, frame-ended, frame-unframed}
+use Rattle.bat_read.specs.declared.Examined.{Examined}
+use Rattle.bat_read.specs.declared.Examined.the-variants.{Element as ElementAt, Unframed as NoFrame, Ended as NoMore}
+use Rattle.bat_read.specs.Examining.{examine, element, examinedIn, noFrame, noMore, indexIn}
+use Rattle.bat_read.proofs.InnerLaws.{innerOf, inner-inside}
+
+-- ---- the index
+module _ (x : ReadingPlace) (n : ℕ) where
+  pub index-decoded : (v : ValuePlace) → x ≡ Decoded v → 0 ≡ indexIn n x
+  unfolding indexIn
+  index-decoded v e = rw e
+
+  module _ (p : Place) (e : x ≡ Unrecognised p) where
+    pub index-itself : p ≡ Itself → 0 ≡ indexIn n x
+    unfolding indexIn indexBy
+    index-itself q = rw (e, q)
+
+    pub index-inner : (d : ℕ) → p ≡ Inner d → n + d ≡ indexIn n x
+    unfolding indexIn indexBy
+    index-inner d q = rw (e, q)
+
+    pub index-fits : (d : ℕ) → p ≡ Inner d → indexIn n x ≤ 131327 → Fits w64 (n + d)
+    index-fits d q h = let z = index-inner d q in omega arith
+
+pub ruleset indexes = (index-decoded, index-itself, index-inner)
+
+-- ---- an element's verdict
+same-judgement : (s : List ℕ) (f : Frame) (pass : Bool) (n : ℕ) → unknown (judgement pass (elementIn s f .identifier) (elementIn s f .compatibility) n) ≡ unknown (judgement pass (f .identifier) (f .compatibility) n)
+unfolding elementIn
+same-judgement s f pass n = refl
+
+-- the answer x to the contents c of the element f at the front of s
+module _ (s : List ℕ) (f : Frame) (here : frontIn s (Whole f) ≡ some (front s)) (c : List ℕ) (is : c ≡ elementIn s f .contents) (x : ReadingPlace) (read : readingIn c x ≡ some (reading (f .identifier) c)) where
+  inside : wholeOf f ≤ length s
+  inside = frame-fits s (Whole f) here f refl
+
+  fronts : front s ≡ first (elementIn s f) (drop (wholeOf f) s)
+  fronts = frame-is s (Whole f) here f refl
+
+  small : length c ≤ 2046
+  small =
+      let (most, two, one, same) = size-small _ _ _ _ (front-size s (elementIn s f) (drop (wholeOf f) s) fronts) in
+      omega (arith, ap (λ (l : List ℕ). length l) is)
+
+  head-is : length (head (elementIn s f)) ≡ headOf f
+  unfolding head elementIn
+  head-is = simp (length-append, length-take, length-drop) (omega (arith, inside))
+
+  read-is : (y : ReadingPlace) → x ≡ y → readingIn c y ≡ some (reading (f .identifier) c)
+  read-is y e = rw e at read
+
+  index-at : (n : ℕ) → HeadLength f n → (y : ReadingPlace) → readingIn c y ≡ some (reading (f .identifier) c) → indexIn n y ≤ 131327
+  unfolding indexIn indexBy readingIn innerOf
+  index-at n h (Decoded v) p = omega arith
+  index-at n h (Unrecognised Itself) p = omega arith
+  index-at n h (Unrecognised (Inner d)) p =
+      let q : unrecognised (Inner d) ≡ reading (f .identifier) c = cc in
+      omega (arith, small, h .few, rw (← q) at (inner-inside (f .identifier) c))
+
+  pub index-small : (n : ℕ) → HeadLength f n → indexIn n x ≤ 131327
+  index-small n h = index-at n h x read
+
+  reading-is : reading (elementIn s f .identifier) (elementIn s f .contents) ≡ reading (f .identifier) c
+  unfolding elementIn
+  reading-is = rw is
+
+  verdict-of : (pass : Bool) (r : Reading) → reading (f .identifier) c ≡ r → verdict pass (elementIn s f) ≡ verdictBy pass (elementIn s f) r
+  unfolding verdict
+  verdict-of pass r e = rw (reading-is, e)
+
+  known-by : (o : Option Value) (pass : Bool) → Option·map decoded o ≡ some (reading (f .identifier) c) → Option·map known o ≡ some (verdict pass (elementIn s f))
+  unfolding verdictBy
+  known-by none pass p = absurd (let z : _≡_ {A = ℕ} 0 1 = cc in omega arith)
+  known-by (some v) pass p =
+      let q : reading (f .identifier) c ≡ decoded v = cc in
+      rw (verdict-of pass (decoded v) q)
+
+  pub verdict-known : (v : ValuePlace) → x ≡ Decoded v → (pass : Bool) → verdictIn (elementIn s f .contents) (Recognised v) ≡ some (verdict pass (elementIn s f))
+  unfolding verdictIn readingIn
+  verdict-known v e pass = ap (λ (l : List ℕ). Option·map known (valueIn l v)) (sym is) ∙ known-by (valueIn c v) pass (read-is (Decoded v) e)
+
+  judgement-is : (pass : Bool) (p : Place) → verdictBy pass (elementIn s f) (unrecognised p) ≡ unknown (judgement pass (f .identifier) (f .compatibility) (indexBy (headOf f) p))
+  unfolding verdictBy
+  judgement-is pass p = rw head-is (same-judgement s f pass (indexBy (headOf f) p))
+
+  pub verdict-unknown : (p : Place) → x ≡ Unrecognised p → (n i : ℕ) → HeadLength f n → i ≡ indexIn n x → (pass : Bool) (j : Judged) → judgementIn j ≡ judgement pass (f .identifier) (f .compatibility) i
+      → verdictIn (elementIn s f .contents) (Unknown j) ≡ some (verdict pass (elementIn s f))
+  unfolding verdictIn readingIn indexIn
+  verdict-unknown p e n i h k pass j g =
+      let q : reading (f .identifier) c ≡ unrecognised p = (let z : some (unrecognised p) ≡ some (reading (f .identifier) c) = read-is (Unrecognised p) e in cc) in
+      let l : i ≡ indexBy (headOf f) p = k ∙ rw (e, h .is) in
+      rw (verdict-of pass (unrecognised p) q, judgement-is pass p, g, l)
+
+pub ruleset verdicts = (verdict-known, verdict-unknown)
+
+-- ---- the front, examined
+module _ (s : List ℕ) (pass : Bool) (x : Framed) (is : frontIn s x ≡ some (front s)) where
+  pub examined-ended : x ≡ Ended → examinedIn s NoMore ≡ some (examine pass s)
+  unfolding examinedIn examine onFront
+  examined-ended e = rw (frame-ended s x is e)
+
+  pub examined-unframed : x ≡ Unframed → examinedIn s NoFrame ≡ some (examine pass s)
+  unfolding examinedIn examine onFront
+  examined-unframed e = rw (frame-unframed s x is e)
+
+  pub examined-element : (f : Frame) → x ≡ Whole f → (v : VerdictPlace) → verdictIn (elementIn s f .contents) v ≡ some (verdict pass (elementIn s f)) → examinedIn s (ElementAt f v) ≡ some (examine pass s)
+  unfolding examinedIn examine onFront
+  examined-element f e v p = rw (le-leb (wholeOf f) (length s) (frame-fits s x is f e), frame-is s x is f e, p)
+
+pub ruleset examined = (examined-ended, examined-unframed, examined-element)

@@ -1,0 +1,30 @@
+use Rattle.octets.proofs.SpanLaws.{text-all}
+use Rattle.bat_read.proofs.ConstructorLaws.{lists}
+use borrow.Author.Needs.{needs}
+use Rattle.bat_read.proofs.constructors.codec_list.Statement.{statement}
+use Rattle.bat_read.proofs.constructors.codec_list.Tie as tie
+use Rattle.bat_read.proofs.constructors.codec_list.Reads as reads
+use Rattle.bat_read.proofs.constructors.codec_list.Lts as lts
+use Rattle.bat_read.proofs.constructors.find_offence.Reads as find-offence-reads
+
+returns : tie.Need-returns
+returns c = search (lists, text-all, needs)
+
+find-offence-requires : tie.Need-find-offence-requires
+find-offence-requires c κs = search needs
+
+enum-known-x : tie.Need-enum-known-x
+enum-known-x c = search needs
+
+enum-told : tie.Need-enum-told
+enum-told c = search needs
+
+returns-2 : tie.Need-returns-2
+returns-2 c = search (lists, text-all, needs)
+
+returns-3 : tie.Need-returns-3
+returns-3 c = search (lists, text-all, needs)
+
+pub codec-list-spec : {M : Type 1} → statement M
+codec-list-spec =
+    tie.close (tie.spec returns find-offence-requires enum-known-x enum-told returns-2 returns-3)

@@ -1,0 +1,45 @@
+use Rattle.bat_read.proofs.ConstructorLaws.{signals}
+use borrow.Author.Needs.{needs}
+use Rattle.bat_read.proofs.constructors.signal.Statement.{statement}
+use Rattle.bat_read.proofs.constructors.signal.Tie as tie
+use Rattle.bat_read.proofs.constructors.signal.Reads as reads
+use Rattle.bat_read.proofs.constructors.signal.Lts as lts
+use Rattle.bat.proofs.framing.first_element.Reads as first-element-reads
+use Rattle.bat_read.proofs.constructors.typed.Reads as typed-reads
+
+first-element-requires : tie.Need-first-element-requires
+first-element-requires c κs = search needs
+
+enum-known-x : tie.Need-enum-known-x
+enum-known-x c = search needs
+
+typed-requires : tie.Need-typed-requires
+typed-requires c κs = cc
+
+enum-told : tie.Need-enum-told
+enum-told c = search needs
+
+enum-told-2 : tie.Need-enum-told-2
+enum-told-2 c = search needs
+
+returns : tie.Need-returns
+returns c = search (signals, needs)
+
+returns-2 : tie.Need-returns-2
+returns-2 c = search (signals, needs)
+
+returns-3 : tie.Need-returns-3
+returns-3 c = search (signals, needs)
+
+pub signal-spec : {M : Type 1} → statement M
+signal-spec =
+    tie.close
+    (tie.spec
+    first-element-requires
+    enum-known-x
+    typed-requires
+    enum-told
+    enum-told-2
+    returns
+    returns-2
+    returns-3)

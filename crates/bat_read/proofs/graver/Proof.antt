@@ -1,0 +1,55 @@
+use Rattle.bat_read.proofs.OutcomeLaws.{graver}
+use borrow.Author.Needs.{needs}
+use Rattle.bat_read.proofs.graver.Statement.{statement}
+use Rattle.bat_read.proofs.graver.Tie as tie
+use Rattle.bat_read.proofs.graver.Reads as reads
+use Rattle.bat_read.proofs.graver.Lts as lts
+
+enum-told : tie.Need-enum-told
+enum-told c = search needs
+
+enum-told-2 : tie.Need-enum-told-2
+enum-told-2 c = search needs
+
+enum-told-3 : tie.Need-enum-told-3
+enum-told-3 c = search needs
+
+enum-told-4 : tie.Need-enum-told-4
+enum-told-4 c = search needs
+
+enum-told-5 : tie.Need-enum-told-5
+enum-told-5 c = search needs
+
+enum-told-6 : tie.Need-enum-told-6
+enum-told-6 c = search needs
+
+returns : tie.Need-returns
+returns c = search (graver, needs)
+
+returns-2 : tie.Need-returns-2
+returns-2 c = search (graver, needs)
+
+returns-3 : tie.Need-returns-3
+returns-3 c = search (graver, needs)
+
+returns-4 : tie.Need-returns-4
+returns-4 c = search (graver, needs)
+
+returns-5 : tie.Need-returns-5
+returns-5 c = search (graver, needs)
+
+pub graver-spec : {M : Type 1} → statement M
+graver-spec =
+    tie.close
+    (tie.spec
+    enum-told
+    enum-told-2
+    enum-told-3
+    enum-told-4
+    enum-told-5
+    enum-told-6
+    returns
+    returns-2
+    returns-3
+    returns-4
+    returns-5)

@@ -1,0 +1,43 @@
+use Rattle.bat_read.proofs.VerdictLaws.{indexes, index-fits}
+use borrow.Author.Needs.{needs}
+use Rattle.bat_read.proofs.index.Statement.{statement}
+use Rattle.bat_read.proofs.index.Tie as tie
+use Rattle.bat_read.proofs.index.Reads as reads
+use Rattle.bat_read.proofs.index.Lts as lts
+
+enum-told : tie.Need-enum-told
+enum-told c = search needs
+
+enum-known-reading : tie.Need-enum-known-reading
+enum-known-reading c = search needs
+
+enum-told-2 : tie.Need-enum-told-2
+enum-told-2 c = search needs
+
+enum-known-place : tie.Need-enum-known-place
+enum-known-place c = search needs
+
+add-result : tie.Need-add-result
+add-result c = search (index-fits, needs)
+
+returns : tie.Need-returns
+returns c = search (indexes, needs)
+
+returns-2 : tie.Need-returns-2
+returns-2 c = search (indexes, needs)
+
+returns-3 : tie.Need-returns-3
+returns-3 c = search (indexes, needs)
+
+pub index-spec : {M : Type 1} → statement M
+index-spec =
+    tie.close
+    (tie.spec
+    enum-told
+    enum-known-reading
+    enum-told-2
+    enum-known-place
+    add-result
+    returns
+    returns-2
+    returns-3)

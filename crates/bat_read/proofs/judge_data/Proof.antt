@@ -1,0 +1,31 @@
+use Rattle.bat_read.proofs.OutcomeLaws.{telling}
+use borrow.Author.Needs.{needs}
+use Rattle.bat_read.proofs.judge_data.Statement.{statement}
+use Rattle.bat_read.proofs.judge_data.Tie as tie
+use Rattle.bat_read.proofs.judge_data.Reads as reads
+use Rattle.bat_read.proofs.judge_data.Lts as lts
+use Rattle.bat.proofs.framing.count.Reads as count-reads
+use Rattle.bat_read.proofs.outcome.Reads as outcome-reads
+
+count-requires : tie.Need-count-requires
+count-requires c κs = search needs
+
+enum-known-c : tie.Need-enum-known-c
+enum-known-c c = search needs
+
+outcome-requires : tie.Need-outcome-requires
+outcome-requires c κs = search needs
+
+enum-known-c-2 : tie.Need-enum-known-c-2
+enum-known-c-2 c = search needs
+
+returns : tie.Need-returns
+returns c = search (telling, needs)
+
+returns-2 : tie.Need-returns-2
+returns-2 c = search (telling, needs)
+
+pub judge-data-spec : {M : Type 1} → statement M
+judge-data-spec =
+    tie.close
+    (tie.spec count-requires enum-known-c outcome-requires enum-known-c-2 returns returns-2)

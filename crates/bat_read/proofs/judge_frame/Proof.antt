@@ -1,0 +1,52 @@
+use Rattle.bat_read.proofs.VerdictLaws.{verdicts, index-small}
+use borrow.Author.Needs.{needs}
+use Rattle.bat_read.proofs.judge_frame.Statement.{statement}
+use Rattle.bat_read.proofs.judge_frame.Tie as tie
+use Rattle.bat_read.proofs.judge_frame.Reads as reads
+use Rattle.bat_read.proofs.judge_frame.Lts as lts
+use Rattle.bat.proofs.framing.contents.Reads as contents-reads
+use Rattle.bat.proofs.framing.head_length.Reads as head-length-reads
+use Rattle.bat.proofs.judging.judge.Reads as judge-reads
+use Rattle.bat_read.proofs.decode.Reads as decode-reads
+use Rattle.bat_read.proofs.index.Reads as index-reads
+
+contents-requires : tie.Need-contents-requires
+contents-requires c κs = search needs
+
+decode-requires : tie.Need-decode-requires
+decode-requires c κs = search needs
+
+enum-known-reading : tie.Need-enum-known-reading
+enum-known-reading c = search needs
+
+enum-told : tie.Need-enum-told
+enum-told c = search needs
+
+head-length-requires : tie.Need-head-length-requires
+head-length-requires c κs = search needs
+
+index-requires : tie.Need-index-requires
+index-requires c κs = search (index-small, needs)
+
+judge-requires : tie.Need-judge-requires
+judge-requires c κs = search needs
+
+returns : tie.Need-returns
+returns c = search (verdicts, needs)
+
+returns-2 : tie.Need-returns-2
+returns-2 c = search (verdicts, needs)
+
+pub judge-frame-spec : {M : Type 1} → statement M
+judge-frame-spec =
+    tie.close
+    (tie.spec
+    contents-requires
+    decode-requires
+    enum-known-reading
+    enum-told
+    head-length-requires
+    index-requires
+    judge-requires
+    returns
+    returns-2)

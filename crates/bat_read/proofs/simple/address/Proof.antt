@@ -1,0 +1,28 @@
+use Rattle.octets.proofs.Pick.{picks, flags}
+use Rattle.bat_read.proofs.SimpleLaws.{some-is}
+use Rattle.bat.specs.Meaning.{valueIn, readingIn}
+use Rattle.bat.specs.Values.{addressIn}
+use borrow.Author.Needs.{needs}
+use Rattle.bat_read.proofs.simple.address.Statement.{statement}
+use Rattle.bat_read.proofs.simple.address.Tie as tie
+use Rattle.bat_read.proofs.simple.address.Reads as reads
+use Rattle.bat_read.proofs.simple.address.Lts as lts
+use Rattle.bat.proofs.ranges.between.Reads as between-reads
+use Rattle.bat_read.proofs.simple.all.Reads as all-reads
+
+between-requires : tie.Need-between-requires
+between-requires c κs = search needs
+
+all-requires : tie.Need-all-requires
+all-requires c κs = search needs
+
+returns : tie.Need-returns
+unfolding readingIn valueIn addressIn
+returns c = rw (c .all .ensures) (search (some-is, picks, flags, needs))
+
+returns-2 : tie.Need-returns-2
+unfolding readingIn valueIn addressIn
+returns-2 c = search (some-is, picks, flags, needs)
+
+pub address-spec : {M : Type 1} → statement M
+address-spec = tie.close (tie.spec between-requires all-requires returns returns-2)

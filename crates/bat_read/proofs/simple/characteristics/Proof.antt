@@ -1,0 +1,27 @@
+use Rattle.octets.proofs.Pick.{picks, flags}
+use Rattle.bat_read.proofs.SimpleLaws.{some-is}
+use Rattle.bat.specs.Meaning.{valueIn, readingIn}
+use Rattle.bat.specs.Values.{characteristicsIn}
+use borrow.Author.Needs.{needs}
+use Rattle.bat_read.proofs.simple.characteristics.Statement.{statement}
+use Rattle.bat_read.proofs.simple.characteristics.Tie as tie
+use Rattle.bat_read.proofs.simple.characteristics.Reads as reads
+use Rattle.bat_read.proofs.simple.characteristics.Lts as lts
+
+returns : tie.Need-returns
+unfolding readingIn valueIn characteristicsIn
+returns c = search (some-is, picks, flags, needs)
+
+shared-slice-read-b : tie.Need-shared-slice-read-b
+shared-slice-read-b c = search needs
+
+returns-2 : tie.Need-returns-2
+unfolding readingIn valueIn characteristicsIn
+returns-2 c = search (some-is, picks, flags, needs)
+
+returns-3 : tie.Need-returns-3
+unfolding readingIn valueIn characteristicsIn
+returns-3 c = search (some-is, picks, flags, needs)
+
+pub characteristics-spec : {M : Type 1} → statement M
+characteristics-spec = tie.close (tie.spec returns shared-slice-read-b returns-2 returns-3)

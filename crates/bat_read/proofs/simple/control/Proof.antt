@@ -1,0 +1,24 @@
+use Rattle.octets.proofs.Pick.{picks, flags}
+use Rattle.bat_read.proofs.SimpleLaws.{some-is}
+use Rattle.bat.specs.Meaning.{valueIn, readingIn}
+use Rattle.bat.specs.Values.{controlIn}
+use borrow.Author.Needs.{needs}
+use Rattle.bat_read.proofs.simple.control.Statement.{statement}
+use Rattle.bat_read.proofs.simple.control.Tie as tie
+use Rattle.bat_read.proofs.simple.control.Reads as reads
+use Rattle.bat_read.proofs.simple.control.Lts as lts
+use Rattle.bat_read.proofs.simple.all.Reads as all-reads
+
+all-requires : tie.Need-all-requires
+all-requires c κs = search needs
+
+returns : tie.Need-returns
+unfolding readingIn valueIn controlIn
+returns c = rw (c .all .ensures) (search (some-is, picks, flags, needs))
+
+returns-2 : tie.Need-returns-2
+unfolding readingIn valueIn controlIn
+returns-2 c = search (some-is, picks, flags, needs)
+
+pub control-spec : {M : Type 1} → statement M
+control-spec = tie.close (tie.spec all-requires returns returns-2)

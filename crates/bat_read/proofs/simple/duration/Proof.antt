@@ -1,0 +1,24 @@
+use Rattle.octets.proofs.Pick.{picks, flags}
+use Rattle.bat_read.proofs.SimpleLaws.{some-is}
+use Rattle.bat.specs.Meaning.{valueIn, readingIn}
+use Rattle.bat.specs.Values.{durationIn}
+use borrow.Author.Needs.{needs}
+use Rattle.bat_read.proofs.simple.duration.Statement.{statement}
+use Rattle.bat_read.proofs.simple.duration.Tie as tie
+use Rattle.bat_read.proofs.simple.duration.Reads as reads
+use Rattle.bat_read.proofs.simple.duration.Lts as lts
+use Rattle.bat.proofs.ranges.word.Reads as word-reads
+
+returns : tie.Need-returns
+unfolding readingIn valueIn durationIn
+returns c = search (some-is, picks, flags, needs)
+
+word-requires : tie.Need-word-requires
+word-requires c κs = search needs
+
+returns-2 : tie.Need-returns-2
+unfolding readingIn valueIn durationIn
+returns-2 c = search (some-is, picks, flags, needs)
+
+pub duration-spec : {M : Type 1} → statement M
+duration-spec = tie.close (tie.spec returns word-requires returns-2)

@@ -1,0 +1,28 @@
+use Rattle.octets.proofs.Pick.{picks, flags}
+use Rattle.bat_read.proofs.SimpleLaws.{some-is}
+use Rattle.bat.specs.Meaning.{valueIn, readingIn}
+use Rattle.bat.specs.Values.{indicatorsIn}
+use borrow.Author.Needs.{needs}
+use Rattle.bat_read.proofs.simple.indicators.Statement.{statement}
+use Rattle.bat_read.proofs.simple.indicators.Tie as tie
+use Rattle.bat_read.proofs.simple.indicators.Reads as reads
+use Rattle.bat_read.proofs.simple.indicators.Lts as lts
+use Rattle.bat.proofs.ranges.are_indicators.Reads as are-indicators-reads
+use Rattle.bat_read.proofs.simple.all.Reads as all-reads
+
+are-indicators-requires : tie.Need-are-indicators-requires
+are-indicators-requires c κs = search needs
+
+all-requires : tie.Need-all-requires
+all-requires c κs = search needs
+
+returns : tie.Need-returns
+unfolding readingIn valueIn indicatorsIn
+returns c = rw (c .all .ensures) (search (some-is, picks, flags, needs))
+
+returns-2 : tie.Need-returns-2
+unfolding readingIn valueIn indicatorsIn
+returns-2 c = search (some-is, picks, flags, needs)
+
+pub indicators-spec : {M : Type 1} → statement M
+indicators-spec = tie.close (tie.spec are-indicators-requires all-requires returns returns-2)

@@ -1,0 +1,29 @@
+use Rattle.bat_read.proofs.SimpleLaws.{reports}
+use borrow.Author.Needs.{needs}
+use Rattle.bat_read.proofs.simple.report.Statement.{statement}
+use Rattle.bat_read.proofs.simple.report.Tie as tie
+use Rattle.bat_read.proofs.simple.report.Reads as reads
+use Rattle.bat_read.proofs.simple.report.Lts as lts
+use Rattle.bat_read.proofs.simple.behind.Reads as behind-reads
+
+returns : tie.Need-returns
+returns c = search (reports, needs)
+
+sub-if2 : tie.Need-sub-if2
+sub-if2 c = search needs
+
+returns-2 : tie.Need-returns-2
+returns-2 c = search (reports, needs)
+
+shared-slice-read-t9 : tie.Need-shared-slice-read-t9
+shared-slice-read-t9 c = search needs
+
+behind-requires : tie.Need-behind-requires
+behind-requires c κs = search needs
+
+returns-3 : tie.Need-returns-3
+returns-3 c = search (reports, needs)
+
+pub report-spec : {M : Type 1} → statement M
+report-spec =
+    tie.close (tie.spec returns sub-if2 returns-2 shared-slice-read-t9 behind-requires returns-3)

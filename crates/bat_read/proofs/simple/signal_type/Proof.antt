@@ -1,0 +1,28 @@
+use Rattle.octets.proofs.Pick.{picks, flags}
+use Rattle.bat_read.proofs.SimpleLaws.{some-is}
+use Rattle.bat.specs.Meaning.{valueIn, readingIn}
+use Rattle.bat.specs.Values.{typeIn}
+use borrow.Author.Needs.{needs}
+use Rattle.bat_read.proofs.simple.signal_type.Statement.{statement}
+use Rattle.bat_read.proofs.simple.signal_type.Tie as tie
+use Rattle.bat_read.proofs.simple.signal_type.Reads as reads
+use Rattle.bat_read.proofs.simple.signal_type.Lts as lts
+use Rattle.bat.proofs.framing.octet_at.Reads as octet-at-reads
+use Rattle.bat.proofs.ranges.is_type.Reads as is-type-reads
+
+is-type-requires : tie.Need-is-type-requires
+is-type-requires c κs = search needs
+
+octet-at-requires : tie.Need-octet-at-requires
+octet-at-requires c κs = search needs
+
+returns : tie.Need-returns
+unfolding readingIn valueIn typeIn
+returns c = rw (c .octet-at .ensures) (search (some-is, picks, flags, needs))
+
+returns-2 : tie.Need-returns-2
+unfolding readingIn valueIn typeIn
+returns-2 c = search (some-is, picks, flags, needs)
+
+pub signal-type-spec : {M : Type 1} → statement M
+signal-type-spec = tie.close (tie.spec is-type-requires octet-at-requires returns returns-2)

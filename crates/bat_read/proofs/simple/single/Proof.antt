@@ -1,0 +1,33 @@
+use Rattle.octets.proofs.Pick.{picks, flags}
+use Rattle.bat_read.proofs.SimpleLaws.{some-is}
+use Rattle.bat.specs.Meaning.{valueIn, readingIn}
+use Rattle.bat.specs.Values.{singleIn}
+use borrow.Author.Needs.{needs}
+use Rattle.bat_read.proofs.simple.single.Statement.{statement}
+use Rattle.bat_read.proofs.simple.single.Tie as tie
+use Rattle.bat_read.proofs.simple.single.Reads as reads
+use Rattle.bat_read.proofs.simple.single.Lts as lts
+use Rattle.bat.proofs.framing.octet_at.Reads as octet-at-reads
+use Rattle.bat.proofs.ranges.is_codec.Reads as is-codec-reads
+use Rattle.bat_read.proofs.simple.behind.Reads as behind-reads
+
+is-codec-requires : tie.Need-is-codec-requires
+is-codec-requires c κs = search needs
+
+octet-at-requires : tie.Need-octet-at-requires
+octet-at-requires c κs = search needs
+
+behind-requires : tie.Need-behind-requires
+behind-requires c κs = search needs
+
+returns : tie.Need-returns
+unfolding readingIn valueIn singleIn
+returns c = rw (c .behind .ensures, c .before .octet-at .ensures) (search (some-is, picks, flags, needs))
+
+returns-2 : tie.Need-returns-2
+unfolding readingIn valueIn singleIn
+returns-2 c = search (some-is, picks, flags, needs)
+
+pub single-spec : {M : Type 1} → statement M
+single-spec =
+    tie.close (tie.spec is-codec-requires octet-at-requires behind-requires returns returns-2)

@@ -1,0 +1,23 @@
+use Rattle.octets.proofs.Pick.{picks, flags}
+use Rattle.bat_read.proofs.SimpleLaws.{some-is}
+use Rattle.bat.specs.Meaning.{valueIn, readingIn}
+use Rattle.bat.specs.Values.{tunnellingIn}
+use borrow.Author.Needs.{needs}
+use Rattle.bat_read.proofs.simple.tunnelling.Statement.{statement}
+use Rattle.bat_read.proofs.simple.tunnelling.Tie as tie
+use Rattle.bat_read.proofs.simple.tunnelling.Reads as reads
+use Rattle.bat_read.proofs.simple.tunnelling.Lts as lts
+
+returns : tie.Need-returns
+unfolding readingIn valueIn tunnellingIn
+returns c = search (some-is, picks, flags, needs)
+
+shared-slice-read-t6 : tie.Need-shared-slice-read-t6
+shared-slice-read-t6 c = search needs
+
+returns-2 : tie.Need-returns-2
+unfolding readingIn valueIn tunnellingIn
+returns-2 c = search (some-is, picks, flags, needs)
+
+pub tunnelling-spec : {M : Type 1} → statement M
+tunnelling-spec = tie.close (tie.spec returns shared-slice-read-t6 returns-2)

@@ -1,0 +1,45 @@
+use Rattle.bat_read.proofs.SimpleLaws.{units}
+use borrow.Author.Needs.{needs}
+use Rattle.bat_read.proofs.simple.unit.Statement.{statement}
+use Rattle.bat_read.proofs.simple.unit.Tie as tie
+use Rattle.bat_read.proofs.simple.unit.Reads as reads
+use Rattle.bat_read.proofs.simple.unit.Lts as lts
+use Rattle.bat.proofs.framing.octet_at.Reads as octet-at-reads
+use Rattle.bat_read.proofs.simple.behind.Reads as behind-reads
+
+returns : tie.Need-returns
+returns c = search (units, needs)
+
+octet-at-requires : tie.Need-octet-at-requires
+octet-at-requires c κs = search needs
+
+cast-n : tie.Need-cast-n
+cast-n c = search needs
+
+sub-if2 : tie.Need-sub-if2
+sub-if2 c = search needs
+
+returns-2 : tie.Need-returns-2
+returns-2 c = search (units, needs)
+
+add-behind : tie.Need-add-behind
+add-behind c = search needs
+
+behind-requires : tie.Need-behind-requires
+behind-requires c κs = search needs
+
+returns-3 : tie.Need-returns-3
+returns-3 c = search (units, needs)
+
+pub unit-spec : {M : Type 1} → statement M
+unit-spec =
+    tie.close
+    (tie.spec
+    returns
+    octet-at-requires
+    cast-n
+    sub-if2
+    returns-2
+    add-behind
+    behind-requires
+    returns-3)

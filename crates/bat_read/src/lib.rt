@@ -1,0 +1,169 @@
+// Elements read and judged.
+pub mod constructors;
+pub mod simple;
+
+ghost use mathlib.Core.Path.{_≡_};
+ghost use mathlib.Core.Option.{some};
+ghost use Prim.Native.Nat.{_≤_, max};
+ghost use Rattle.bat.specs.Framing.{front};
+ghost use Rattle.bat.specs.Values.{reading};
+ghost use Rattle.bat.specs.Judging.{verdict, judgedData};
+ghost use Rattle.bat.specs.Meaning.{readingIn, elementIn, frontIn, verdictIn, dataNumber, toldBy, toldOf};
+ghost use Rattle.bat.specs.declared.Framed.the-variants.{Whole};
+ghost use Rattle.bat_read.specs.Examining.{examine, examinedIn, indexIn, askedIn, gravest};
+use bat::Counted;
+use bat::DataAnswer;
+use bat::DataOutcome;
+use bat::Frame;
+use bat::Framed;
+use bat::Outcome;
+use bat::Place;
+use bat::Reading;
+use bat::Verdict;
+
+// An element at the front of a slice and what is made of it.
+pub enum Examined {
+    Element(Frame, Verdict),
+    Unframed,
+    Ended,
+}
+
+// Where the first inner element stands that is no single codec, if there is one.
+pub enum Offence {
+    At(usize),
+    Nowhere,
+}
+
+// What the contents of an element with this identifier are read as.
+pub fn decode(identifier: u8, contents: &[u8]) -> Reading
+    ensures { λ r. ⌜ readingIn (now (contents .entry)) r ≡ some (reading identifier (now (contents .entry))) ⌝ }
+{
+    match identifier {
+        1 => simple::action(contents),
+        2 => simple::backbone(contents),
+        3 => simple::address(contents),
+        4 => constructors::codec_list(contents),
+        5 => simple::single(contents),
+        6 => simple::report(contents),
+        7 => simple::characteristics(contents),
+        8 => simple::control(contents),
+        9 => simple::tunnelling(contents),
+        10 => simple::unit(contents),
+        11 => constructors::signal(contents),
+        12 => simple::capability(contents),
+        13 => simple::indicators(contents),
+        14 => simple::signal_type(contents),
+        15 => simple::duration(contents),
+        _ => Reading::Unrecognised(Place::Itself),
+    }
+}
+
+// The index of an unrecognised element's diagnostic, whose head has n octets.
+fn index(reading: Reading, n: usize) -> usize
+    requires { ⌜ indexIn n reading ≤ 131327 ⌝ }
+    ensures { λ r. ⌜ r ≡ indexIn n reading ⌝ }
+{
+    match reading {
+        Reading::Decoded(_) => 0,
+        Reading::Unrecognised(place) => match place {
+            Place::Itself => 0,
+            Place::Inner(d) => n + d,
+        },
+    }
+}
+
+// What is made of the element f at the front of s.
+fn judge_frame(s: &[u8], f: Frame, pass: bool) -> Verdict
+    requires { ⌜ frontIn (now s) (Whole f) ≡ some (front (now s)) ⌝ }
+    ensures { λ r. ⌜ verdictIn ((elementIn (now (s .entry)) f) .contents) r ≡ some (verdict pass (elementIn (now (s .entry)) f)) ⌝ }
+{
+    let reading = decode(f.identifier, bat::framing::contents(s, f));
+    let Reading::Decoded(value) = reading else {
+        let at = index(reading, bat::framing::head_length(f));
+        return Verdict::Unknown(bat::judging::judge(f.identifier, f.compatibility, at, pass));
+    };
+    Verdict::Recognised(value)
+}
+
+// What stands at the front of s, and what is made of it, where passing on is possible or not.
+pub fn examine_first(s: &[u8], pass: bool) -> Examined
+    ensures { λ r. ⌜ examinedIn (now (s .entry)) r ≡ some (examine pass (now (s .entry))) ⌝ }
+{
+    let x = bat::framing::first_element(s);
+    match x {
+        Framed::Whole(f) => Examined::Element(f, judge_frame(s, f, pass)),
+        Framed::Unframed => Examined::Unframed,
+        Framed::Ended => Examined::Ended,
+    }
+}
+
+// The outcome that an element's verdict asks for the data.
+fn asks(v: Verdict) -> DataOutcome
+    ensures { λ r. ⌜ dataNumber r ≡ askedIn v ⌝ }
+{
+    match v {
+        Verdict::Recognised(_) => DataOutcome::Neither,
+        Verdict::Unknown(j) => {
+            let o = j.outcome;
+            match o {
+                Outcome::PassOn => DataOutcome::Neither,
+                Outcome::DiscardElement => DataOutcome::Neither,
+                Outcome::DiscardData => DataOutcome::DiscardAll,
+                Outcome::Release => DataOutcome::ReleaseAll,
+            }
+        }
+    }
+}
+
+// The graver of two outcomes.
+fn graver(a: DataOutcome, b: DataOutcome) -> DataOutcome
+    ensures { λ r. ⌜ dataNumber r ≡ max (dataNumber a) (dataNumber b) ⌝ }
+{
+    match a {
+        DataOutcome::ReleaseAll => a,
+        DataOutcome::Neither => b,
+        DataOutcome::DiscardAll => match b {
+            DataOutcome::ReleaseAll => b,
+            DataOutcome::DiscardAll => b,
+            DataOutcome::Neither => a,
+        },
+    }
+}
+
+// What is made of the data as a whole, as far as it can be framed.
+fn outcome(data: &[u8], pass: bool) -> DataOutcome
+    ensures { λ r. ⌜ dataNumber r ≡ gravest pass (now («data» .entry)) ⌝ }
+{
+    let mut worst = DataOutcome::Neither;
+    let mut at = 0;
+    while at < data.len() {
+        let x = examine_first(octets::spans::after(data, at), pass);
+        match x {
+            Examined::Element(f, v) => {
+                at += bat::framing::whole_length(f);
+                worst = graver(worst, asks(v));
+            }
+            Examined::Unframed => {
+                return worst;
+            }
+            Examined::Ended => {
+                return worst;
+            }
+        }
+    }
+    worst
+}
+
+// The answer to application data, with a table of so many entries, where passing on is possible or not.
+pub fn judge_data(data: &[u8], entries: usize, pass: bool) -> DataAnswer
+    ensures { λ r. ⌜ toldBy r ≡ toldOf (judgedData pass entries (now («data» .entry))) ⌝ }
+{
+    let c = bat::framing::count(data, entries);
+    match c {
+        Counted::Elements(n) => DataAnswer::Taken {
+            count: n,
+            outcome: outcome(data, pass),
+        },
+        Counted::Refused(n) => DataAnswer::Turned(n),
+    }
+}

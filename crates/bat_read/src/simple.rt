@@ -1,0 +1,192 @@
+// The contents of each simple element, by its identifier.
+ghost use mathlib.Core.Path.{_≡_};
+ghost use mathlib.Core.Option.{some};
+ghost use lib.ListN.{drop};
+ghost use Rattle.octets.specs.Spans.{textOf};
+ghost use Rattle.bat.specs.Values.{actionIn, backboneIn, addressIn, singleIn, reportIn, characteristicsIn, controlIn, tunnellingIn, unitIn, capabilityIn, indicatorsIn, typeIn, durationIn};
+ghost use Rattle.bat.specs.Meaning.{readingIn};
+use bat::Codec;
+use bat::Place;
+use bat::Reading;
+use bat::Value;
+use octets::Span;
+
+// All of s.
+fn all(s: &[u8]) -> Span
+    ensures { λ r. ⌜ textOf (now (s .entry)) r ≡ now (s .entry) ⌝ }
+{
+    Span {
+        at: 0,
+        len: s.len(),
+    }
+}
+
+// What of s stands behind its first n octets.
+fn behind(s: &[u8], n: usize) -> Span
+    ensures { λ r. ⌜ textOf (now (s .entry)) r ≡ drop n (now (s .entry)) ⌝ }
+{
+    if s.len() < n {
+        return Span { at: 0, len: 0 };
+    }
+    Span {
+        at: n,
+        len: s.len() - n,
+    }
+}
+
+// 1 action.
+pub fn action(s: &[u8]) -> Reading
+    ensures { λ r. ⌜ readingIn (now (s .entry)) r ≡ some (actionIn (now (s .entry))) ⌝ }
+{
+    if s.len() != 1 {
+        return Reading::Unrecognised(Place::Itself);
+    }
+    let b = s[0];
+    if codes::is_action(b) {
+        return Reading::Decoded(Value::Action(b));
+    }
+    Reading::Unrecognised(Place::Itself)
+}
+
+// 2 backbone connection.
+pub fn backbone(s: &[u8]) -> Reading
+    ensures { λ r. ⌜ readingIn (now (s .entry)) r ≡ some (backboneIn (now (s .entry))) ⌝ }
+{
+    if bat::ranges::between(s, 1, 4) {
+        return Reading::Decoded(Value::Backbone(all(s)));
+    }
+    Reading::Unrecognised(Place::Itself)
+}
+
+// 3 interworking address.
+pub fn address(s: &[u8]) -> Reading
+    ensures { λ r. ⌜ readingIn (now (s .entry)) r ≡ some (addressIn (now (s .entry))) ⌝ }
+{
+    if bat::ranges::between(s, 1, 20) {
+        return Reading::Decoded(Value::Address(all(s)));
+    }
+    Reading::Unrecognised(Place::Itself)
+}
+
+// 5 single codec.
+pub fn single(s: &[u8]) -> Reading
+    ensures { λ r. ⌜ readingIn (now (s .entry)) r ≡ some (singleIn (now (s .entry))) ⌝ }
+{
+    if bat::ranges::is_codec(s) {
+        return Reading::Decoded(Value::Single(Codec {
+            organisation: bat::framing::octet_at(s, 0),
+            information: behind(s, 1),
+        }));
+    }
+    Reading::Unrecognised(Place::Itself)
+}
+
+// 6 compatibility report.
+pub fn report(s: &[u8]) -> Reading
+    ensures { λ r. ⌜ readingIn (now (s .entry)) r ≡ some (reportIn (now (s .entry))) ⌝ }
+{
+    if s.len() < 1 {
+        return Reading::Unrecognised(Place::Itself);
+    }
+    if (s.len() - 1) % 3 != 0 {
+        return Reading::Unrecognised(Place::Itself);
+    }
+    Reading::Decoded(Value::Report {
+        reason: s[0],
+        diagnostics: behind(s, 1),
+    })
+}
+
+// 7 connection characteristics.
+pub fn characteristics(s: &[u8]) -> Reading
+    ensures { λ r. ⌜ readingIn (now (s .entry)) r ≡ some (characteristicsIn (now (s .entry))) ⌝ }
+{
+    if s.len() != 1 {
+        return Reading::Unrecognised(Place::Itself);
+    }
+    let b = s[0];
+    if b <= 4 {
+        return Reading::Decoded(Value::Characteristics(b));
+    }
+    Reading::Unrecognised(Place::Itself)
+}
+
+// 8 bearer control information.
+pub fn control(s: &[u8]) -> Reading
+    ensures { λ r. ⌜ readingIn (now (s .entry)) r ≡ some (controlIn (now (s .entry))) ⌝ }
+{
+    if 1 <= s.len() {
+        return Reading::Decoded(Value::Control(all(s)));
+    }
+    Reading::Unrecognised(Place::Itself)
+}
+
+// 9 tunnelling.
+pub fn tunnelling(s: &[u8]) -> Reading
+    ensures { λ r. ⌜ readingIn (now (s .entry)) r ≡ some (tunnellingIn (now (s .entry))) ⌝ }
+{
+    if s.len() != 1 {
+        return Reading::Unrecognised(Place::Itself);
+    }
+    Reading::Decoded(Value::Tunnelling(s[0] % 2 == 1))
+}
+
+// 10 control unit.
+pub fn unit(s: &[u8]) -> Reading
+    ensures { λ r. ⌜ readingIn (now (s .entry)) r ≡ some (unitIn (now (s .entry))) ⌝ }
+{
+    if s.len() < 1 {
+        return Reading::Unrecognised(Place::Itself);
+    }
+    let n = bat::framing::octet_at(s, 0) as usize;
+    if s.len() - 1 <= n {
+        return Reading::Unrecognised(Place::Itself);
+    }
+    Reading::Decoded(Value::Unit {
+        network: Span { at: 1, len: n },
+        local: behind(s, 1 + n),
+    })
+}
+
+// 12 redirection capability.
+pub fn capability(s: &[u8]) -> Reading
+    ensures { λ r. ⌜ readingIn (now (s .entry)) r ≡ some (capabilityIn (now (s .entry))) ⌝ }
+{
+    if s.len() < 1 {
+        return Reading::Unrecognised(Place::Itself);
+    }
+    if bat::framing::count_unmarked(s) != s.len() - 1 {
+        return Reading::Unrecognised(Place::Itself);
+    }
+    Reading::Decoded(Value::Capability(s[0] % 2 == 1))
+}
+
+// 13 redirection indicators.
+pub fn indicators(s: &[u8]) -> Reading
+    ensures { λ r. ⌜ readingIn (now (s .entry)) r ≡ some (indicatorsIn (now (s .entry))) ⌝ }
+{
+    if bat::ranges::are_indicators(s) {
+        return Reading::Decoded(Value::Indicators(all(s)));
+    }
+    Reading::Unrecognised(Place::Itself)
+}
+
+// 14 signal type.
+pub fn signal_type(s: &[u8]) -> Reading
+    ensures { λ r. ⌜ readingIn (now (s .entry)) r ≡ some (typeIn (now (s .entry))) ⌝ }
+{
+    if bat::ranges::is_type(s) {
+        return Reading::Decoded(Value::SignalType(bat::framing::octet_at(s, 0)));
+    }
+    Reading::Unrecognised(Place::Itself)
+}
+
+// 15 duration.
+pub fn duration(s: &[u8]) -> Reading
+    ensures { λ r. ⌜ readingIn (now (s .entry)) r ≡ some (durationIn (now (s .entry))) ⌝ }
+{
+    if s.len() != 2 {
+        return Reading::Unrecognised(Place::Itself);
+    }
+    Reading::Decoded(Value::Duration(bat::ranges::word(s)))
+}
