@@ -1,0 +1,74 @@
+-- Document 01, "Examples on each side", those marked P, as one table: what is asked, and the answer. antt
+-- computes the definitions on every row.
+-- Assumes nothing.
+use Prim.Native.Nat.{ℕ}
+use mathlib.Core.Path.{_≡_, refl}
+use mathlib.Core.List.{List, [], _∷_, map}
+use mathlib.Core.Bool.{Bool, true, false}
+use mathlib.Core.Option.{Option, none, some, Option·elim}
+use Rattle.codes.specs.Codes.{isAction}
+use Rattle.bat.specs.Framing.{Length, sized, unsized, lengthOf, unmarked, head, whole, countedBy, elementBy, sizedBy, front, onFront, walkFrom, walk, elements, roomFor, cut}
+use Rattle.bat.specs.Values.{Diagnostic, action, ituCodec, rightCodec, actionIn, withCodec, onCodecs, isSingle, codecThen, codecsIn, codecListIn, reading}
+use Rattle.bat.specs.Judging.{indexBy, secondChoice, outcomeOf, noticeOf, judgement, Verdict, known, unknown, verdictBy, verdict, Answer, turned, judged, judgedBy, judgedData}
+
+-- what the number of a length field is, if it is one
+lengthNumber : Length → Option ℕ
+lengthNumber (sized octets n rest) = some n
+lengthNumber unsized = none
+
+-- the diagnostics of unrecognised elements, listed or not
+diagnostics : List Verdict → List Diagnostic
+diagnostics [] = []
+diagnostics (known v ∷ vs) = diagnostics vs
+diagnostics (unknown j ∷ vs) = j .diagnostic ∷ diagnostics vs
+
+diagnosed : Answer → Option (List Diagnostic)
+diagnosed (turned n) = none
+diagnosed (judged vs) = some (diagnostics vs)
+
+data Question : Type 0 where
+  -- the length that these octets are
+  length-of : List ℕ → Question
+  -- what is made of this data, where passing on is possible
+  answer-to : List ℕ → Question
+  -- the diagnostics of its unrecognised elements
+  diagnosed-in : List ℕ → Question
+  -- what an element with this compatibility octet asks for, where passing on is not possible: outcome and notice
+  asked-by : ℕ → Question
+
+data Reply : Type 0 where
+  a-length : Option ℕ → Reply
+  an-answer : Answer → Reply
+  the-diagnostics : Option (List Diagnostic) → Reply
+  an-outcome : ℕ → Bool → Reply
+
+reply : Question → Reply
+unfolding lengthNumber diagnosed
+reply (length-of s) = a-length (lengthNumber (lengthOf s))
+reply (answer-to s) = an-answer (judgedData true 16 s)
+reply (diagnosed-in s) = the-diagnostics (diagnosed (judgedData true 16 s))
+reply (asked-by c) = an-outcome (outcomeOf false c) (noticeOf false c)
+
+record Example : Type 0 where
+  pub asked : Question
+  pub right : Reply
+
+examples : List Example
+examples =
+    record { asked = answer-to (0x01 ∷ 0x82 ∷ 0x81 ∷ 0x08 ∷ []); right = an-answer (judged (known (action 8) ∷ [])) }
+    ∷ record { asked = diagnosed-in (0xE0 ∷ 0x81 ∷ 0x85 ∷ []); right = the-diagnostics (some (record { identifier = 0xE0; index = 0 } ∷ [])) }
+    ∷ record {
+      asked = diagnosed-in (0x04 ∷ 0x8B ∷ 0x85 ∷ 0x05 ∷ 0x83 ∷ 0x80 ∷ 0x01 ∷ 0x01 ∷ 0x05 ∷ 0x83 ∷ 0x80 ∷ 0x01 ∷ 0x0D ∷ []);
+      right = the-diagnostics (some (record { identifier = 0x04; index = 8 } ∷ []));
+    }
+    ∷ record { asked = length-of (0x00 ∷ 0x81 ∷ []); right = a-length (some 128) }
+    ∷ record { asked = length-of (0x7F ∷ 0x8F ∷ []); right = a-length (some 2047) }
+    ∷ record { asked = answer-to (0x01 ∷ 0x80 ∷ []); right = an-answer (turned 2) }
+    ∷ record { asked = answer-to (0x01 ∷ 0x00 ∷ 0x01 ∷ []); right = an-answer (turned 2) }
+    ∷ record { asked = asked-by 0xB0; right = an-outcome 3 false }
+    ∷ record { asked = asked-by 0xD0; right = an-outcome 1 true }
+    ∷ []
+
+all-right : map (λ x. reply (x .asked)) examples ≡ map (λ x. x .right) examples
+unfolding reply examples lengthNumber diagnostics diagnosed isAction lengthOf unmarked head whole countedBy elementBy sizedBy front onFront walkFrom walk elements roomFor cut ituCodec rightCodec actionIn withCodec onCodecs isSingle codecThen codecsIn codecListIn reading indexBy secondChoice outcomeOf noticeOf judgement verdictBy verdict judgedBy judgedData Option·elim
+all-right = refl
