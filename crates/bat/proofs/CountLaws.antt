@@ -18,9 +18,10 @@ use Rattle.bat.specs.declared.Framed.{Framed}
 use Rattle.bat.specs.declared.Framed.the-variants.{Whole, Unframed, Ended}
 use Rattle.bat.specs.declared.Counted.{Counted}
 use Rattle.bat.specs.declared.Counted.the-variants.{Elements, Refused}
-use Rattle.bat.specs.Framing.{Element, whole, Front, front, first, unframed, ended, walk, withElement, elements, refused, mostOctets, roomFor, cut}
+use Rattle.bat.specs.Framing.{Element, whole, Front, front, first, unframed, ended, elements, refused, mostOctets, roomFor, cut}
 use Rattle.bat.specs.Meaning.{wholeOf, elementIn, frontIn, WholeLength, countIn, countOf}
-use Rattle.bat.proofs.WalkLaws.{front-within, front-nil, front-whole, walk-ended, walk-unframed, walk-first, by-front}
+use Rattle.bat.proofs.WalkLaws.{front-within, front-nil, front-whole}
+use Rattle.bat.proofs.DataLaws.{elements-ended, elements-unframed, elements-first}
 
 -- ---- the element that an answer stands for at the front of s
 whole-in : (s : List ℕ) (f : Frame) (z : Front) → frontIn s (Whole f) ≡ some z → (wholeOf f ≤ length s) × (z ≡ first (elementIn s f) (drop (wholeOf f) s))
@@ -59,37 +60,6 @@ module _ (s : List ℕ) (x : Framed) (is : frontIn s x ≡ some (front s)) where
 
     pub frame-some : 3 ≤ w
     frame-some = omega (arith, frame-length, front-whole s (elementIn s f) (drop w s) frame-first)
-
--- ---- elements from one to the next
-elementsAt : ℕ → List ℕ → Option (List Element)
-elementsAt d s = walk withElement (λ d. none) (some []) d s
-
--- the distance says nothing
-elements-at : (s : List ℕ) (d : ℕ) → elementsAt d s ≡ elements s
-unfolding elementsAt elements
-elements-at =
-    by-front (λ (s : List ℕ). (d : ℕ) → elementsAt d s ≡ elements s)
-    (λ d. walk-ended withElement (λ d. none) (some []) d [] front-nil ∙ sym (walk-ended withElement (λ d. none) (some []) 0 [] front-nil))
-    (λ s q d. walk-unframed withElement (λ d. none) (some []) d s q ∙ sym (walk-unframed withElement (λ d. none) (some []) 0 s q))
-    (λ s e t q ih d.
-    walk-first withElement (λ d. none) (some []) d s e t q
-    ∙ ap (Option·map (λ (r : List Element). e ∷ r)) (ih (d + length (whole e)) ∙ sym (ih (0 + length (whole e))))
-    ∙ sym (walk-first withElement (λ d. none) (some []) 0 s e t q))
-
-module _ (s : List ℕ) where
-  pub elements-ended : front s ≡ ended → elements s ≡ some []
-  unfolding elements
-  elements-ended q = walk-ended withElement (λ d. none) (some []) 0 s q
-
-  pub elements-unframed : front s ≡ unframed → elements s ≡ none
-  unfolding elements
-  elements-unframed q = walk-unframed withElement (λ d. none) (some []) 0 s q
-
-  pub elements-first : (e : Element) (t : List ℕ) → front s ≡ first e t → elements s ≡ Option·map (λ (r : List Element). e ∷ r) (elements t)
-  unfolding elements elementsAt
-  elements-first e t q =
-      walk-first withElement (λ d. none) (some []) 0 s e t q
-      ∙ ap (Option·map (λ (r : List Element). e ∷ r)) (elements-at t (0 + length (whole e)))
 
 -- ---- the count
 -- n elements, and those of o

@@ -1,9 +1,9 @@
 -- The laws of elements.
 pub mod WalkLaws
+pub mod DataLaws
 pub mod FrameLaws
 pub mod CountLaws
 pub mod RangeLaws
 pub mod JudgeLaws
-pub mod DataLaws
 pub mod RoundTrip
 pub mod DecodedLaws

@@ -11,7 +11,7 @@ use lib.Dec.{ltb, eqb}
 use native.Mathlib.Omega.{arith}
 use native.Mathlib.Nat.{le-refl}
 use borrow.Author.Tests.{le-leb, lt-leb, lt-ltb, le-ltb, eq-eqb, ne-eqb}
-use Rattle.bat.specs.Framing.{octet, Length, sized, unsized, lengthOf, unmarked, Element, head, whole, Front, first, unframed, ended, countedBy, elementBy, sizedBy, front, onFront, walkFrom, walk}
+use Rattle.bat.specs.Framing.{octet, Length, sized, unsized, lengthOf, unmarked, Element, head, whole, Front, first, unframed, ended, countedBy, elementBy, sizedBy, front, onFront, walkFrom, walk, fold}
 use Rattle.octets.proofs.CaseLaws.{by-eq, by-lt, by-le}
 
 -- ---- length
@@ -199,3 +199,27 @@ module _ (P : List ℕ → Type 0) (nil : P []) (bad : (s : List ℕ) → front 
 
   pub by-front : (s : List ℕ) → P s
   by-front s = by-front-within (length s) s (le-refl (length s))
+
+-- ---- the same where the distance says nothing
+module _ {X : Type 0} (step : Element → X → X) (bad end : X) where
+  walk-anywhere : (s : List ℕ) (c d : ℕ) → walk (λ e d x. step e x) (λ d. bad) end c s ≡ walk (λ e d x. step e x) (λ d. bad) end d s
+  walk-anywhere =
+      by-front (λ (s : List ℕ). (c d : ℕ) → walk (λ e d x. step e x) (λ d. bad) end c s ≡ walk (λ e d x. step e x) (λ d. bad) end d s)
+      (λ c d. walk-ended (λ e d x. step e x) (λ d. bad) end c [] front-nil ∙ sym (walk-ended (λ e d x. step e x) (λ d. bad) end d [] front-nil))
+      (λ s q c d. walk-unframed (λ e d x. step e x) (λ d. bad) end c s q ∙ sym (walk-unframed (λ e d x. step e x) (λ d. bad) end d s q))
+      (λ s e t q ih c d.
+      walk-first (λ e d x. step e x) (λ d. bad) end c s e t q
+      ∙ ap (step e) (ih (c + length (whole e)) (d + length (whole e)))
+      ∙ sym (walk-first (λ e d x. step e x) (λ d. bad) end d s e t q))
+
+  pub fold-ended : (s : List ℕ) → front s ≡ ended → fold step bad end s ≡ end
+  unfolding fold
+  fold-ended s q = walk-ended (λ e d x. step e x) (λ d. bad) end 0 s q
+
+  pub fold-unframed : (s : List ℕ) → front s ≡ unframed → fold step bad end s ≡ bad
+  unfolding fold
+  fold-unframed s q = walk-unframed (λ e d x. step e x) (λ d. bad) end 0 s q
+
+  pub fold-first : (s : List ℕ) (e : Element) (t : List ℕ) → front s ≡ first e t → fold step bad end s ≡ step e (fold step bad end t)
+  unfolding fold
+  fold-first s e t q = walk-first (λ e d x. step e x) (λ d. bad) end 0 s e t q ∙ ap (step e) (walk-anywhere t (0 + length (whole e)) 0)

@@ -110,13 +110,14 @@ walkFrom step bad end (suc k) d s =
 unfoldable pub walk : {X : Type 0} → (Element → ℕ → X → X) → (ℕ → X) → X → ℕ → List ℕ → X
 walk step bad end d s = walkFrom step bad end (length s) d s
 
+-- the same where the distance says nothing
+unfoldable pub fold : {X : Type 0} → (Element → X → X) → X → X → List ℕ → X
+fold step bad end s = walk (λ e d x. step e x) (λ d. bad) end 0 s
+
 -- ---- application data
 -- its elements, where all of it can be framed; empty data has none
-abbrev pub withElement : Element → ℕ → Option (List Element) → Option (List Element)
-withElement e d es = Option·map (λ (r : List Element). e ∷ r) es
-
 unfoldable pub elements : List ℕ → Option (List Element)
-elements s = walk withElement (λ d. none) (some []) 0 s
+elements s = fold (λ e es. Option·map (λ (r : List Element). e ∷ r) es) none (some []) s
 
 -- the most octets of application data, and of a whole element
 abbrev pub mostOctets : ℕ

@@ -26,12 +26,13 @@ use Rattle.bat.specs.declared.Verdict.the-variants.{Recognised, Unknown}
 use Rattle.bat.specs.declared.DataOutcome.{DataOutcome}
 use Rattle.bat.specs.declared.DataOutcome.the-variants.{Neither, DiscardAll, ReleaseAll}
 use Rattle.bat.specs.declared.DataAnswer.the-variants.{Turned, Taken}
-use Rattle.bat.specs.Framing.{Element, whole, Front, front, first, unframed, ended, onFront, walk, elements, Cut, refused, taken, mostOctets, roomFor, cut}
+use Rattle.bat.specs.Framing.{Element, whole, Front, front, first, unframed, ended, onFront, elements, Cut, refused, taken, mostOctets, roomFor, cut}
 use Rattle.bat.specs.Values.{Value}
 use Rattle.bat.specs.Judging.{Judgement, Verdict, known, unknown, verdict, says, someSays, dataOutcome, turned, judged, judgedBy, judgedData}
 use Rattle.bat.specs.Meaning.{wholeOf, elementIn, frontIn, WholeLength, valueIn, outcomeNumber, judgementIn, verdictIn, dataNumber, toldBy, toldOf, countOf}
-use Rattle.bat.proofs.WalkLaws.{front-nil, walk-ended, walk-unframed, walk-first, by-front}
-use Rattle.bat.proofs.CountLaws.{elements-ended, elements-unframed, elements-first, place-inside, place-fits, place-falls}
+use Rattle.bat.proofs.WalkLaws.{front-nil, fold-ended, fold-unframed, fold-first, by-front}
+use Rattle.bat.proofs.DataLaws.{elements-ended, elements-unframed, elements-first}
+use Rattle.bat.proofs.CountLaws.{place-fits, place-falls}
 use Rattle.bat_read.specs.declared.Examined.{Examined}
 use Rattle.bat_read.specs.declared.Examined.the-variants.{Element as ElementAt, Unframed as NoFrame, Ended as NoMore}
 use Rattle.bat_read.specs.Examining.{Examination, element, noFrame, noMore, examine, examinedIn, asked, askedIn, askedBy, gravest}
@@ -132,32 +133,17 @@ unfolding dataOutcome someSays
 nil-outcome = refl
 
 module _ (pass : Bool) where
-  abbrev gravestAt : ℕ → List ℕ → ℕ
-  gravestAt d s = walk (λ e d n. max (askedBy (verdict pass e)) n) (λ d. 0) 0 d s
-
-  gravest-at : (s : List ℕ) (d : ℕ) → gravestAt d s ≡ gravest pass s
-  unfolding gravest
-  gravest-at =
-      by-front (λ (s : List ℕ). (d : ℕ) → gravestAt d s ≡ gravestAt 0 s)
-      (λ d. walk-ended (λ e d n. max (askedBy (verdict pass e)) n) (λ d. 0) 0 d [] front-nil ∙ sym (walk-ended (λ e d n. max (askedBy (verdict pass e)) n) (λ d. 0) 0 0 [] front-nil))
-      (λ s q d. walk-unframed (λ e d n. max (askedBy (verdict pass e)) n) (λ d. 0) 0 d s q ∙ sym (walk-unframed (λ e d n. max (askedBy (verdict pass e)) n) (λ d. 0) 0 0 s q))
-      (λ s e t q ih d.
-      walk-first (λ e d n. max (askedBy (verdict pass e)) n) (λ d. 0) 0 d s e t q
-      ∙ ap (λ (n : ℕ). max (askedBy (verdict pass e)) n) (ih (d + length (whole e)) ∙ sym (ih (0 + length (whole e))))
-      ∙ sym (walk-first (λ e d n. max (askedBy (verdict pass e)) n) (λ d. 0) 0 0 s e t q))
-
   gravest-first : (s : List ℕ) (e : Element) (t : List ℕ) → front s ≡ first e t → gravest pass s ≡ max (askedBy (verdict pass e)) (gravest pass t)
   unfolding gravest
-  gravest-first s e t q =
-      walk-first (λ e d n. max (askedBy (verdict pass e)) n) (λ d. 0) 0 0 s e t q ∙ ap (λ (n : ℕ). max (askedBy (verdict pass e)) n) (gravest-at t (0 + length (whole e)))
+  gravest-first s e t q = fold-first (λ e n. max (askedBy (verdict pass e)) n) 0 0 s e t q
 
   gravest-ended : (s : List ℕ) → front s ≡ ended → gravest pass s ≡ 0
   unfolding gravest
-  gravest-ended s q = walk-ended (λ e d n. max (askedBy (verdict pass e)) n) (λ d. 0) 0 0 s q
+  gravest-ended s q = fold-ended (λ e n. max (askedBy (verdict pass e)) n) 0 0 s q
 
   gravest-unframed : (s : List ℕ) → front s ≡ unframed → gravest pass s ≡ 0
   unfolding gravest
-  gravest-unframed s q = walk-unframed (λ e d n. max (askedBy (verdict pass e)) n) (λ d. 0) 0 0 s q
+  gravest-unframed s q = fold-unframed (λ e n. max (askedBy (verdict pass e)) n) 0 0 s q
 
   -- of data that can be framed it is the outcome
   gravest-outcome : (s : List ℕ) (es : List Element) → elements s ≡ some es → gravest pass s ≡ dataOutcome (map (verdict pass) es)

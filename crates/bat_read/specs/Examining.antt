@@ -5,7 +5,7 @@ use mathlib.Core.Bool.{Bool, cond}
 use mathlib.Core.Option.{Option, none, some, Option·map}
 use lib.ListN.{length, drop}
 use lib.Dec.{leb, eqb}
-use Rattle.bat.specs.Framing.{Element, front, onFront, walk}
+use Rattle.bat.specs.Framing.{Element, front, onFront, fold}
 use Rattle.bat.specs.Values.{Codecs, allCodecs, offence}
 use Rattle.bat.specs.Judging.{indexBy, Verdict, known, unknown, verdict}
 use Rattle.bat.specs.Meaning.{wholeOf, elementIn, outcomeNumber, verdictIn}
@@ -62,4 +62,4 @@ askedBy (unknown j) = asked (j .outcome)
 
 -- the gravest of what the elements of s ask, as far as it can be framed
 unfoldable pub gravest : Bool → List ℕ → ℕ
-gravest pass s = walk (λ e d n. max (askedBy (verdict pass e)) n) (λ d. 0) 0 0 s
+gravest pass s = fold (λ e n. max (askedBy (verdict pass e)) n) 0 0 s

@@ -7,7 +7,7 @@ use mathlib.Core.List.{List, [], _∷_, map}
 use mathlib.Core.Bool.{Bool, true, false}
 use mathlib.Core.Option.{Option, none, some, Option·elim}
 use Rattle.codes.specs.Codes.{isAction}
-use Rattle.bat.specs.Framing.{Length, sized, unsized, lengthOf, unmarked, head, whole, countedBy, elementBy, sizedBy, front, onFront, walkFrom, walk, elements, roomFor, cut}
+use Rattle.bat.specs.Framing.{Length, sized, unsized, lengthOf, unmarked, head, whole, countedBy, elementBy, sizedBy, front, onFront, walkFrom, walk, fold, elements, roomFor, cut}
 use Rattle.bat.specs.Values.{Diagnostic, action, ituCodec, rightCodec, actionIn, withCodec, onCodecs, isSingle, codecThen, codecsIn, codecListIn, reading}
 use Rattle.bat.specs.Judging.{indexBy, secondChoice, outcomeOf, noticeOf, judgement, Verdict, known, unknown, verdictBy, verdict, Answer, turned, judged, judgedBy, judgedData}
 
@@ -70,5 +70,5 @@ examples =
     ∷ []
 
 all-right : map (λ x. reply (x .asked)) examples ≡ map (λ x. x .right) examples
-unfolding reply examples lengthNumber diagnostics diagnosed isAction lengthOf unmarked head whole countedBy elementBy sizedBy front onFront walkFrom walk elements roomFor cut ituCodec rightCodec actionIn withCodec onCodecs isSingle codecThen codecsIn codecListIn reading indexBy secondChoice outcomeOf noticeOf judgement verdictBy verdict judgedBy judgedData Option·elim
+unfolding reply examples lengthNumber diagnostics diagnosed isAction lengthOf unmarked head whole countedBy elementBy sizedBy front onFront walkFrom walk fold elements roomFor cut ituCodec rightCodec actionIn withCodec onCodecs isSingle codecThen codecsIn codecListIn reading indexBy secondChoice outcomeOf noticeOf judgement verdictBy verdict judgedBy judgedData Option·elim
 all-right = refl
