@@ -63,10 +63,14 @@ verdict pass e = verdictBy pass e (reading (e .identifier) (e .contents))
 unfoldable pub isListed : Judgement → Bool
 isListed j = (eqb (j .outcome) 1 || eqb (j .outcome) 2) && j .notice
 
+-- the diagnostics ds, and before them that of this verdict where it is listed
+unfoldable pub listedWith : Verdict → List Diagnostic → List Diagnostic
+listedWith (known v) ds = ds
+listedWith (unknown j) ds = cond (isListed j) (j .diagnostic ∷ ds) ds
+
 unfoldable pub listed : List Verdict → List Diagnostic
 listed [] = []
-listed (known v ∷ vs) = listed vs
-listed (unknown j ∷ vs) = cond (isListed j) (j .diagnostic ∷ listed vs) (listed vs)
+listed (v ∷ vs) = listedWith v (listed vs)
 
 -- an element says n
 unfoldable pub says : ℕ → Verdict → Bool

@@ -5,3 +5,4 @@ pub mod ReadLaws
 pub mod InnerLaws
 pub mod VerdictLaws
 pub mod OutcomeLaws
+pub mod ListedLaws

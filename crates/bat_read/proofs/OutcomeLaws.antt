@@ -195,16 +195,16 @@ module _ (pass : Bool) where
       (g, q ∙ rw h)
 
   module _ (t : List ℕ) (x : Examined) (is : examinedIn t x ≡ some (examine pass t)) where
-    seen-ended : x ≡ NoMore → front t ≡ ended
+    pub seen-ended : x ≡ NoMore → front t ≡ ended
     unfolding examinedIn examine
     seen-ended e = let p : some noMore ≡ some (examine pass t) = rw e at is in on-ended (front t) (cc)
 
-    seen-unframed : x ≡ NoFrame → front t ≡ unframed
+    pub seen-unframed : x ≡ NoFrame → front t ≡ unframed
     unfolding examinedIn examine
     seen-unframed e = let p : some noFrame ≡ some (examine pass t) = rw e at is in on-unframed (front t) (cc)
 
     module _ (f : Frame) (v : VerdictPlace) (e : x ≡ ElementAt f v) where
-      seen : (wholeOf f ≤ length t) × (front t ≡ first (elementIn t f) (drop (wholeOf f) t)) × (verdictIn (elementIn t f .contents) v ≡ some (verdict pass (elementIn t f)))
+      pub seen : (wholeOf f ≤ length t) × (front t ≡ first (elementIn t f) (drop (wholeOf f) t)) × (verdictIn (elementIn t f .contents) v ≡ some (verdict pass (elementIn t f)))
       unfolding examinedIn
       seen =
           let p = rw e at is in
@@ -217,6 +217,13 @@ module _ (pass : Bool) where
       seen-front = rw (le-leb (wholeOf f) (length t) (seen .0), seen .1)
 
   -- ---- from one element of the data to the next
+  module _ (s : List ℕ) (at : ℕ) (t : List ℕ) (here : t ≡ drop at s) (x : Examined) (is : examinedIn t x ≡ some (examine pass t)) (f : Frame) (v : VerdictPlace) (e : x ≡ ElementAt f v) (w : ℕ) (l : WholeLength f w) where
+    pub seen-fits : at < length s → length s < 2 ^ 64 → Fits w64 (at + w)
+    seen-fits h k = place-fits s at t here (Whole f) (seen-front t x is f v e) f refl w l h k
+
+    pub seen-falls : at < length s → length s - (at + w) < length s - at
+    seen-falls h = place-falls s at t here (Whole f) (seen-front t x is f v e) f refl w l h
+
   -- at the place `at` of the data, where those before it come to n; y is what all come to
   module _ (s : List ℕ) (n at y : ℕ) (inv : max n (gravest pass (drop at s)) ≡ y) where
     pub outcome-end : length s ≤ at → n ≡ y
@@ -241,12 +248,6 @@ module _ (pass : Bool) where
             let g = gravest-first pass t (elementIn t f) (drop w t) next in
             let b : a ≡ askedBy (verdict pass (elementIn t f)) = k ∙ asked-is (elementIn t f .contents) v (verdict pass (elementIn t f)) (seen t x is f v e .2) in
             rw (← drop-drop w at s, ← here) (omega (arith, here-is, g, b, q))
-
-        pub outcome-fits : at < length s → length s < 2 ^ 64 → Fits w64 (at + w)
-        outcome-fits h k = place-fits s at t here (Whole f) (seen-front t x is f v e) f refl w l h k
-
-        pub outcome-falls : at < length s → length s - (at + w) < length s - at
-        outcome-falls h = place-falls s at t here (Whole f) (seen-front t x is f v e) f refl w l h
 
 pub ruleset outcomes = (outcome-end, outcome-ended, outcome-unframed, outcome-more)
 

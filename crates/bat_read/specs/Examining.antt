@@ -1,20 +1,24 @@
 -- What the answers of this crate stand for.
 use Prim.Native.Nat.{ℕ, max}
-use mathlib.Core.List.{List}
+use mathlib.Core.List.{List, [], _∷_}
 use mathlib.Core.Bool.{Bool, cond}
 use mathlib.Core.Option.{Option, none, some, Option·map}
 use lib.ListN.{length, drop}
 use lib.Dec.{leb, eqb}
 use Rattle.bat.specs.Framing.{Element, front, onFront, fold}
-use Rattle.bat.specs.Values.{Codecs, allCodecs, offence}
-use Rattle.bat.specs.Judging.{indexBy, Verdict, known, unknown, verdict}
-use Rattle.bat.specs.Meaning.{wholeOf, elementIn, outcomeNumber, verdictIn}
+use Rattle.bat.specs.Values.{Diagnostic, Codecs, allCodecs, offence}
+use Rattle.bat.specs.Judging.{indexBy, Verdict, known, unknown, verdict, isListed, listedWith}
+use Rattle.bat.specs.Meaning.{wholeOf, elementIn, outcomeNumber, diagnosticIn, judgementIn, verdictIn}
 use Rattle.bat.specs.declared.Reading.{Reading as ReadingPlace}
 use Rattle.bat.specs.declared.Reading.the-variants.{Decoded, Unrecognised}
 use Rattle.bat.specs.declared.Verdict.{Verdict as VerdictPlace}
 use Rattle.bat.specs.declared.Verdict.the-variants.{Recognised, Unknown}
 use Rattle.bat_read.specs.declared.Examined.{Examined}
 use Rattle.bat_read.specs.declared.Examined.the-variants.{Element as ElementAt, Unframed, Ended}
+use Rattle.bat_read.specs.declared.Own.{Own}
+use Rattle.bat_read.specs.declared.Own.the-variants.{Lists, ListsNone}
+use Rattle.bat_read.specs.declared.Listed.{Listed}
+use Rattle.bat_read.specs.declared.Listed.the-variants.{Next, NoneLeft}
 use Rattle.bat_read.specs.declared.Offence.{Offence}
 use Rattle.bat_read.specs.declared.Offence.the-variants.{At, Nowhere}
 
@@ -63,3 +67,21 @@ askedBy (unknown j) = asked (j .outcome)
 -- the gravest of what the elements of s ask, as far as it can be framed
 unfoldable pub gravest : Bool → List ℕ → ℕ
 gravest pass s = fold (λ e n. max (askedBy (verdict pass e)) n) 0 0 s
+
+-- the diagnostics that are listed of the elements of s, as far as it can be framed
+unfoldable pub listedFrom : Bool → List ℕ → List Diagnostic
+listedFrom pass s = fold (λ e ds. listedWith (verdict pass e) ds) [] [] s
+
+-- what an answer stands for in s: a diagnostic and those from its place on, or none
+unfoldable pub listedIn : Bool → List ℕ → Listed → List Diagnostic
+listedIn pass s (Next d at) = diagnosticIn d ∷ listedFrom pass (drop at s)
+listedIn pass s NoneLeft = []
+
+-- the diagnostic that a verdict lists
+unfoldable pub ownIn : Own → List Diagnostic → List Diagnostic
+ownIn (Lists d) ds = diagnosticIn d ∷ ds
+ownIn ListsNone ds = ds
+
+unfoldable pub ownOf : VerdictPlace → List Diagnostic → List Diagnostic
+ownOf (Recognised v) ds = ds
+ownOf (Unknown j) ds = cond (isListed (judgementIn j)) (diagnosticIn (j .diagnostic) ∷ ds) ds

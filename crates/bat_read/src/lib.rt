@@ -10,10 +10,14 @@ ghost use Rattle.bat.specs.Values.{reading};
 ghost use Rattle.bat.specs.Judging.{verdict, judgedData};
 ghost use Rattle.bat.specs.Meaning.{readingIn, elementIn, frontIn, verdictIn, dataNumber, toldBy, toldOf};
 ghost use Rattle.bat.specs.declared.Framed.the-variants.{Whole};
-ghost use Rattle.bat_read.specs.Examining.{examine, examinedIn, indexIn, askedIn, gravest};
+ghost use Rattle.bat_read.specs.Examining.{examine, examinedIn, indexIn, askedIn, gravest, listedFrom, listedIn, ownIn, ownOf};
+ghost use Rattle.bat.specs.Values.{Diagnostic as Meant};
+ghost use mathlib.Core.List.{List};
+ghost use lib.ListN.{drop};
 use bat::Counted;
 use bat::DataAnswer;
 use bat::DataOutcome;
+use bat::Diagnostic;
 use bat::Frame;
 use bat::Framed;
 use bat::Outcome;
@@ -26,6 +30,18 @@ pub enum Examined {
     Element(Frame, Verdict),
     Unframed,
     Ended,
+}
+
+// A diagnostic that is listed, and the place behind its element.
+pub enum Listed {
+    Next(Diagnostic, usize),
+    NoneLeft,
+}
+
+// The diagnostic that one element lists.
+pub enum Own {
+    Lists(Diagnostic),
+    ListsNone,
 }
 
 // Where the first inner element stands that is no single codec, if there is one.
@@ -166,4 +182,52 @@ pub fn judge_data(data: &[u8], entries: usize, pass: bool) -> DataAnswer
         },
         Counted::Refused(n) => DataAnswer::Turned(n),
     }
+}
+
+// The diagnostic that an element lists, by its verdict.
+fn lists(v: Verdict) -> Own
+    ensures { λ r. ⌜ ((ds : List Meant) → ownIn r ds ≡ ownOf v ds) ⌝ }
+{
+    match v {
+        Verdict::Recognised(_) => Own::ListsNone,
+        Verdict::Unknown(j) => {
+            if bat::judging::is_listed(j) {
+                let d = j.diagnostic;
+                return Own::Lists(d);
+            }
+            Own::ListsNone
+        }
+    }
+}
+
+// The first diagnostic that the elements of the data list from a place on, where passing on is possible
+// or not.
+pub fn next_listed(data: &[u8], from: usize, pass: bool) -> Listed
+    ensures { λ r. ⌜ listedIn pass (now («data» .entry)) r ≡ listedFrom pass (drop from (now («data» .entry))) ⌝ }
+{
+    let mut at = from;
+    while at < data.len() {
+        let x = examine_first(octets::spans::after(data, at), pass);
+        match x {
+            Examined::Element(f, v) => {
+                at += bat::framing::whole_length(f);
+                let o = lists(v);
+                match o {
+                    Own::Lists(d) => {
+                        return Listed::Next(d, at);
+                    }
+                    Own::ListsNone => {
+                        continue;
+                    }
+                }
+            }
+            Examined::Unframed => {
+                return Listed::NoneLeft;
+            }
+            Examined::Ended => {
+                return Listed::NoneLeft;
+            }
+        }
+    }
+    Listed::NoneLeft
 }

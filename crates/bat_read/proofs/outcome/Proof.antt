@@ -4,7 +4,7 @@ use mathlib.Core.Path.{_≡_}
 use lib.ListN.{length, drop}
 use Rattle.bat.specs.Meaning.{dataNumber}
 use Rattle.bat_read.specs.Examining.{gravest}
-use Rattle.bat_read.proofs.OutcomeLaws.{outcomes, outcome-fits, outcome-falls}
+use Rattle.bat_read.proofs.OutcomeLaws.{outcomes, seen-fits, seen-falls}
 use borrow.Author.Needs.{needs}
 use Rattle.bat_read.proofs.outcome.Statement.{statement}
 use Rattle.bat_read.proofs.outcome.Tie as tie
@@ -39,7 +39,7 @@ whole-length-requires : tie.Need-whole-length-requires Inv-loop μ-loop
 whole-length-requires c κs = search needs
 
 add-at : tie.Need-add-at Inv-loop μ-loop
-add-at c = search (outcome-fits, needs)
+add-at c = search (seen-fits, needs)
 
 asks-requires : tie.Need-asks-requires Inv-loop μ-loop
 asks-requires c κs = search needs
@@ -48,7 +48,7 @@ graver-requires : tie.Need-graver-requires Inv-loop μ-loop
 graver-requires c κs = search needs
 
 loop-less : tie.Need-loop-less Inv-loop μ-loop
-loop-less c = search (outcome-falls, needs)
+loop-less c = search (seen-falls, needs)
 
 loop-again : tie.Need-loop-again Inv-loop μ-loop
 loop-again c = search (outcomes, needs)
