@@ -31,7 +31,7 @@ use Rattle.bat.specs.declared.Verdict.the-variants.{Recognised, Unknown}
 use Rattle.bat.specs.declared.DataOutcome.{DataOutcome}
 use Rattle.bat.specs.declared.DataOutcome.the-variants.{Neither, DiscardAll, ReleaseAll}
 use Rattle.bat.specs.declared.DataAnswer.{DataAnswer}
-use Rattle.bat.specs.declared.DataAnswer.the-variants.{Turned, Taken}
+use Rattle.bat.specs.declared.DataAnswer.the-variants.{Refused as RefusedData, Taken}
 use Rattle.bat.specs.Framing.{Length, sized, unsized, Element, Front, first, unframed, ended, Cut, refused, taken}
 use Rattle.bat.specs.Values.{Diagnostic, Codec, Kind, Lasting, untimed, lasting, Value, action, backbone, address, codecs, single, report, characteristics, control, tunnelling, controlUnit, signal, capability, indicators, signalType, duration, Reading, decoded, unrecognised, meant, diagnosticsIn, codecsIn, onCodecs}
 use Rattle.bat.specs.Judging.{Judgement, Verdict, known, unknown, dataOutcome, Answer, turned, judged}
@@ -149,7 +149,7 @@ pub data Told : Type 0 where
   outcome : ℕ → ℕ → Told
 
 unfoldable pub toldBy : DataAnswer → Told
-toldBy (Turned n) = number n
+toldBy (RefusedData n) = number n
 toldBy (Taken n o) = outcome n (dataNumber o)
 
 unfoldable pub toldOf : Answer → Told

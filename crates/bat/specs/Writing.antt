@@ -9,7 +9,7 @@ use lib.ListN.{length, drop}
 use lib.Dec.{leb, ltb, eqb}
 use Rattle.codes.specs.Codes.{isAction, isSignal}
 use Rattle.bat.specs.declared.Put.{Put}
-use Rattle.bat.specs.declared.Put.the-variants.{Octets, Not}
+use Rattle.bat.specs.declared.Put.the-variants.{Octets, Refused as RefusedPut}
 use Rattle.bat.specs.Framing.{mostOctets}
 use Rattle.bat.specs.Values.{Diagnostic, Codec, ListedCodec, Kind, Lasting, untimed, lasting, Value, action, backbone, address, codecs, single, report, characteristics, control, tunnelling, controlUnit, signal, capability, indicators, signalType, duration, rightCodec, rightIndicators}
 
@@ -118,8 +118,8 @@ octetsIn c (some v) = octetsOf c v
 
 -- 5, then 4
 unfoldable pub putAnswer : ℕ → Option (List ℕ) → Put
-putAnswer room none = Not 5
-putAnswer room (some t) = cond (ltb room (length t)) (Not 4) (Octets (length t))
+putAnswer room none = RefusedPut 5
+putAnswer room (some t) = cond (ltb room (length t)) (RefusedPut 4) (Octets (length t))
 
 -- a refusal leaves the buffer as it was, and else the octets past those written stay
 unfoldable pub putLeaves : List ℕ → Option (List ℕ) → List ℕ

@@ -6,6 +6,7 @@ ghost use Rattle.bat.specs.Meaning.{sizeIn, frontIn, elementIn, HeadLeng
 use crate::Counted;
 use crate::Frame;
 use crate::Framed;
+use crate::MOST_OCTETS;
 use crate::Size;
 use octets::Span;
 
@@ -146,7 +147,7 @@ fn count_elements(data: &[u8]) -> Counted
 pub fn count(data: &[u8], entries: usize) -> Counted
     ensures { λ r. ⌜ r ≡ countOf (cut entries (now («data» .entry))) ⌝ }
 {
-    if 2048 < data.len() {
+    if MOST_OCTETS < data.len() {
         return Counted::Refused(1);
     }
     let c = count_elements(data);

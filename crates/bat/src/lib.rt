@@ -7,6 +7,9 @@ pub mod ranges;
 
 use octets::Span;
 
+// The most octets of application data, and of a whole element.
+pub const MOST_OCTETS: usize = 2048;
+
 // A length field: the number, and how many octets it takes.
 pub enum Size {
     Of(u16, u8),
@@ -123,12 +126,12 @@ pub enum DataOutcome {
 // The answer to application data: the number that refuses it, or how many elements it has and what
 // is made of it as a whole.
 pub enum DataAnswer {
-    Turned(u8),
+    Refused(u8),
     Taken { count: usize, outcome: DataOutcome },
 }
 
 // A writer's answer: how many octets it wrote, or the number that refuses the call.
 pub enum Put {
     Octets(usize),
-    Not(u8),
+    Refused(u8),
 }

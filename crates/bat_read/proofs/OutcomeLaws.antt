@@ -25,7 +25,7 @@ use Rattle.bat.specs.declared.Verdict.{Verdict as VerdictPlace}
 use Rattle.bat.specs.declared.Verdict.the-variants.{Recognised, Unknown}
 use Rattle.bat.specs.declared.DataOutcome.{DataOutcome}
 use Rattle.bat.specs.declared.DataOutcome.the-variants.{Neither, DiscardAll, ReleaseAll}
-use Rattle.bat.specs.declared.DataAnswer.the-variants.{Turned, Taken}
+use Rattle.bat.specs.declared.DataAnswer.the-variants.{Refused as RefusedData, Taken}
 use Rattle.bat.specs.Framing.{Element, whole, Front, front, first, unframed, ended, onFront, elements, Cut, refused, taken, mostOctets, roomFor, cut}
 use Rattle.bat.specs.Values.{Value}
 use Rattle.bat.specs.Judging.{Judgement, Verdict, known, unknown, verdict, says, someSays, dataOutcome, turned, judged, judgedBy, judgedData}
@@ -271,11 +271,11 @@ module _ (s : List ℕ) (entries : ℕ) (pass : Bool) (y : Counted) (is : y ≡ 
   unfolding judgedData
   told-by x e = rw e
 
-  pub told-refused : (n : ℕ) → y ≡ Refused n → toldBy (Turned n) ≡ toldOf (judgedData pass entries s)
+  pub told-refused : (n : ℕ) → y ≡ Refused n → toldBy (RefusedData n) ≡ toldOf (judgedData pass entries s)
   unfolding toldBy toldOf judgedBy countOf
   told-refused n e = go (cut entries s) refl
     where
-      go : (x : Cut) → cut entries s ≡ x → toldBy (Turned n) ≡ toldOf (judgedData pass entries s)
+      go : (x : Cut) → cut entries s ≡ x → toldBy (RefusedData n) ≡ toldOf (judgedData pass entries s)
       go (refused m) q = let k : y ≡ Refused m = rw q at is in let z : n ≡ m = cc in rw z (sym (told-by (refused m) q))
       go (taken es) q = let k : y ≡ Elements (length es) = rw q at is in absurd (let z : _≡_ {A = ℕ} 0 1 = cc in omega arith)
 

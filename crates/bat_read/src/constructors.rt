@@ -57,7 +57,7 @@ pub fn find_offence(s: &[u8]) -> Offence
 }
 
 // 4 codec list.
-pub fn codec_list(s: &[u8]) -> Reading
+pub(crate) fn codec_list(s: &[u8]) -> Reading
     ensures { λ r. ⌜ readingIn (now (s .entry)) r ≡ some (codecListIn (now (s .entry))) ⌝ }
 {
     if s.len() == 0 {
@@ -148,7 +148,7 @@ fn typed(s: &[u8], f: Frame) -> Reading
 }
 
 // 11 signal.
-pub fn signal(s: &[u8]) -> Reading
+pub(crate) fn signal(s: &[u8]) -> Reading
     ensures { λ r. ⌜ readingIn (now (s .entry)) r ≡ some (signalIn (now (s .entry))) ⌝ }
 {
     let x = bat::framing::first_element(s);

@@ -1,6 +1,6 @@
 // Elements read and judged.
 pub mod constructors;
-pub mod simple;
+mod simple;
 
 ghost use mathlib.Core.Path.{_≡_};
 ghost use mathlib.Core.Option.{some};
@@ -39,7 +39,7 @@ pub enum Listed {
 }
 
 // The diagnostic that one element lists.
-pub enum Own {
+enum Own {
     Lists(Diagnostic),
     ListsNone,
 }
@@ -180,7 +180,7 @@ pub fn judge_data(data: &[u8], entries: usize, pass: bool) -> DataAnswer
             count: n,
             outcome: outcome(data, pass),
         },
-        Counted::Refused(n) => DataAnswer::Turned(n),
+        Counted::Refused(n) => DataAnswer::Refused(n),
     }
 }
 

@@ -35,7 +35,7 @@ fn behind(s: &[u8], n: usize) -> Span
 }
 
 // 1 action.
-pub fn action(s: &[u8]) -> Reading
+pub(crate) fn action(s: &[u8]) -> Reading
     ensures { λ r. ⌜ readingIn (now (s .entry)) r ≡ some (actionIn (now (s .entry))) ⌝ }
 {
     if s.len() != 1 {
@@ -49,7 +49,7 @@ pub fn action(s: &[u8]) -> Reading
 }
 
 // 2 backbone connection.
-pub fn backbone(s: &[u8]) -> Reading
+pub(crate) fn backbone(s: &[u8]) -> Reading
     ensures { λ r. ⌜ readingIn (now (s .entry)) r ≡ some (backboneIn (now (s .entry))) ⌝ }
 {
     if bat::ranges::between(s, 1, 4) {
@@ -59,7 +59,7 @@ pub fn backbone(s: &[u8]) -> Reading
 }
 
 // 3 interworking address.
-pub fn address(s: &[u8]) -> Reading
+pub(crate) fn address(s: &[u8]) -> Reading
     ensures { λ r. ⌜ readingIn (now (s .entry)) r ≡ some (addressIn (now (s .entry))) ⌝ }
 {
     if bat::ranges::between(s, 1, 20) {
@@ -69,7 +69,7 @@ pub fn address(s: &[u8]) -> Reading
 }
 
 // 5 single codec.
-pub fn single(s: &[u8]) -> Reading
+pub(crate) fn single(s: &[u8]) -> Reading
     ensures { λ r. ⌜ readingIn (now (s .entry)) r ≡ some (singleIn (now (s .entry))) ⌝ }
 {
     if bat::ranges::is_codec(s) {
@@ -82,7 +82,7 @@ pub fn single(s: &[u8]) -> Reading
 }
 
 // 6 compatibility report.
-pub fn report(s: &[u8]) -> Reading
+pub(crate) fn report(s: &[u8]) -> Reading
     ensures { λ r. ⌜ readingIn (now (s .entry)) r ≡ some (reportIn (now (s .entry))) ⌝ }
 {
     if s.len() < 1 {
@@ -98,7 +98,7 @@ pub fn report(s: &[u8]) -> Reading
 }
 
 // 7 connection characteristics.
-pub fn characteristics(s: &[u8]) -> Reading
+pub(crate) fn characteristics(s: &[u8]) -> Reading
     ensures { λ r. ⌜ readingIn (now (s .entry)) r ≡ some (characteristicsIn (now (s .entry))) ⌝ }
 {
     if s.len() != 1 {
@@ -112,7 +112,7 @@ pub fn characteristics(s: &[u8]) -> Reading
 }
 
 // 8 bearer control information.
-pub fn control(s: &[u8]) -> Reading
+pub(crate) fn control(s: &[u8]) -> Reading
     ensures { λ r. ⌜ readingIn (now (s .entry)) r ≡ some (controlIn (now (s .entry))) ⌝ }
 {
     if 1 <= s.len() {
@@ -122,7 +122,7 @@ pub fn control(s: &[u8]) -> Reading
 }
 
 // 9 tunnelling.
-pub fn tunnelling(s: &[u8]) -> Reading
+pub(crate) fn tunnelling(s: &[u8]) -> Reading
     ensures { λ r. ⌜ readingIn (now (s .entry)) r ≡ some (tunnellingIn (now (s .entry))) ⌝ }
 {
     if s.len() != 1 {
@@ -132,7 +132,7 @@ pub fn tunnelling(s: &[u8]) -> Reading
 }
 
 // 10 control unit.
-pub fn unit(s: &[u8]) -> Reading
+pub(crate) fn unit(s: &[u8]) -> Reading
     ensures { λ r. ⌜ readingIn (now (s .entry)) r ≡ some (unitIn (now (s .entry))) ⌝ }
 {
     if s.len() < 1 {
@@ -149,7 +149,7 @@ pub fn unit(s: &[u8]) -> Reading
 }
 
 // 12 redirection capability.
-pub fn capability(s: &[u8]) -> Reading
+pub(crate) fn capability(s: &[u8]) -> Reading
     ensures { λ r. ⌜ readingIn (now (s .entry)) r ≡ some (capabilityIn (now (s .entry))) ⌝ }
 {
     if s.len() < 1 {
@@ -162,7 +162,7 @@ pub fn capability(s: &[u8]) -> Reading
 }
 
 // 13 redirection indicators.
-pub fn indicators(s: &[u8]) -> Reading
+pub(crate) fn indicators(s: &[u8]) -> Reading
     ensures { λ r. ⌜ readingIn (now (s .entry)) r ≡ some (indicatorsIn (now (s .entry))) ⌝ }
 {
     if bat::ranges::are_indicators(s) {
@@ -172,7 +172,7 @@ pub fn indicators(s: &[u8]) -> Reading
 }
 
 // 14 signal type.
-pub fn signal_type(s: &[u8]) -> Reading
+pub(crate) fn signal_type(s: &[u8]) -> Reading
     ensures { λ r. ⌜ readingIn (now (s .entry)) r ≡ some (typeIn (now (s .entry))) ⌝ }
 {
     if bat::ranges::is_type(s) {
@@ -182,7 +182,7 @@ pub fn signal_type(s: &[u8]) -> Reading
 }
 
 // 15 duration.
-pub fn duration(s: &[u8]) -> Reading
+pub(crate) fn duration(s: &[u8]) -> Reading
     ensures { λ r. ⌜ readingIn (now (s .entry)) r ≡ some (durationIn (now (s .entry))) ⌝ }
 {
     if s.len() != 2 {

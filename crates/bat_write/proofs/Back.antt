@@ -1,0 +1,118 @@
+-- What `write_element` answers to have written is read back from the buffer as the value that was given: the octets are those of its element, which are read so whatever stands behind them.
+-- Assumes nothing.
+use Prim.Native.Nat.{ℕ, _+_}
+use mathlib.Core.Path.{_≡_, refl, sym, ap, _∙_}
+use mathlib.Core.List.{List, _++_}
+use mathlib.Core.Bool.{true, _&&_}
+use mathlib.Core.Option.{Option, none, some, Option·map, Option·elim}
+use lib.ListN.{length, drop}
+use lib.Seq.{drop-append-seam}
+use lib.Dec.{leb, ltb}
+use native.Mathlib.Omega.{arith}
+use borrow.Author.Tests.{lt-ltb, le-ltb, leb-true}
+use Rattle.octets.specs.Spans.{textOf}
+use Rattle.octets.proofs.CaseLaws.{by-lt, by-bool}
+use Rattle.bat.specs.declared.Timed.{Timed}
+use Rattle.bat.specs.declared.Timed.the-variants.{Untimed, Lasting as LastingFor}
+use Rattle.bat.specs.declared.Value.{Value as ValuePlace}
+use Rattle.bat.specs.declared.Value.the-variants.{Action, Backbone, Address, Codecs as CodecsPlace, Single, Report, Characteristics, Control, Tunnelling, Unit as UnitPlace, Signal, Capability, Indicators, SignalType, Duration}
+use Rattle.bat.specs.declared.Put.the-variants.{Octets, Refused as RefusedPut}
+use Rattle.bat.specs.Framing.{mostOctets, Element, whole, front, first}
+use Rattle.bat.specs.Values.{Diagnostic, Value, report, decoded, reading, meant, diagnosticsIn, Codecs, allCodecs, offence, onCodecs, codecsIn}
+use Rattle.bat.specs.Writing.{inRange, valueText, octetsOf, octetsIn, putAnswer, putLeaves, Puts}
+use Rattle.bat.specs.Meaning.{lastingIn, valueIn}
+use Rattle.bat.proofs.RoundTrip.{and-both, settledLasting, settled, read-written}
+use Rattle.bat_write.specs.Texts.{listOf}
+use Rattle.bat_write.proofs.CodecLaws.{listed}
+
+-- ---- the compatibility bits of inner elements are seven
+codecs-settled : (s : List ℕ) (x : Codecs) → codecsIn s ≡ x → Option·elim (listOf x) true settled ≡ true
+unfolding onCodecs Option·elim settled
+codecs-settled s (allCodecs cs) p = listed s cs p .settles
+codecs-settled s (offence d) p = refl
+
+report-settled : (r : ℕ) (o : Option (List Diagnostic)) → Option·elim (Option·map (report r) o) true settled ≡ true
+unfolding Option·elim settled
+report-settled r none = refl
+report-settled r (some ds) = refl
+
+meant-small : (c : ℕ) → ltb (meant c) 128 ≡ true
+meant-small c = lt-ltb (meant c) 128 (omega arith)
+
+lasting-settled : (t : Timed) → settledLasting (lastingIn t) ≡ true
+unfolding lastingIn settledLasting
+lasting-settled Untimed = refl
+lasting-settled (LastingFor c n) = meant-small c
+
+settled-in : (s : List ℕ) (v : ValuePlace) → Option·elim (valueIn s v) true settled ≡ true
+unfolding valueIn Option·elim settled
+settled-in s (Action n) = refl
+settled-in s (Backbone p) = refl
+settled-in s (Address p) = refl
+settled-in s (CodecsPlace p) = codecs-settled (textOf s p) (codecsIn (textOf s p)) refl
+settled-in s (Single c) = refl
+settled-in s (Report r p) = report-settled r (diagnosticsIn (textOf s p))
+settled-in s (Characteristics n) = refl
+settled-in s (Control p) = refl
+settled-in s (Tunnelling b) = refl
+settled-in s (UnitPlace n l) = refl
+settled-in s (Signal k t) = rw (meant-small (k .compatibility), lasting-settled t)
+settled-in s (Capability b) = refl
+settled-in s (Indicators p) = refl
+settled-in s (SignalType n) = refl
+settled-in s (Duration n) = refl
+
+-- ---- what an answer of n octets says
+puts-no : (l : List ℕ) (n : ℕ) (f : List ℕ) → Puts none l (Octets n) f → ⊥
+unfolding putAnswer
+puts-no l n f p = let q : Octets n ≡ RefusedPut 5 = p .answers in let z : _≡_ {A = ℕ} 0 1 = cc in omega arith
+
+puts-some : (t l : List ℕ) (n : ℕ) (f : List ℕ) → Puts (some t) l (Octets n) f → (n ≡ length t) × (f ≡ t ++ drop (length t) l)
+unfolding putAnswer putLeaves
+puts-some t l n f p =
+    by-lt (length l) (length t) _
+    (λ h. let a = p .answers in let q : Octets n ≡ RefusedPut 4 = rw (lt-ltb (length l) (length t) h) at a in absurd (let z : _≡_ {A = ℕ} 0 1 = cc in omega arith))
+    (λ h. let a = p .answers in let q : Octets n ≡ Octets (length t) = rw (le-ltb (length l) (length t) h) at a in
+    let b = p .leaves in
+    (cc, rw (le-ltb (length l) (length t) h) at b))
+
+-- At the front of f, in n octets, stands an element that is decoded as the value that v stands for, with the compatibility bits of c.
+pub record WrittenBack (s : List ℕ) (v : ValuePlace) (c n : ℕ) (f : List ℕ) : Type 0 where
+  pub value : Value
+  pub stands : valueIn s v ≡ some value
+  pub element : Element
+  pub fronts : front f ≡ first element (drop n f)
+  pub covers : length (whole element) ≡ n
+  pub means : meant (element .compatibility) ≡ meant c
+  pub decodes : reading (element .identifier) (element .contents) ≡ decoded value
+
+module _ (s : List ℕ) (v : ValuePlace) (c : ℕ) (l : List ℕ) (n : ℕ) (f : List ℕ) where
+  back-right : (w : Value) → valueIn s v ≡ some w → (inRange w && leb (length (valueText (meant c) w)) mostOctets) ≡ true → settled w ≡ true
+      → Puts (some (valueText (meant c) w)) l (Octets n) f → WrittenBack s v c n f
+  back-right w is h q p =
+      let t = valueText (meant c) w in
+      let (right, short) = and-both (inRange w) (leb (length t) mostOctets) h in
+      let (count, leaves) = puts-some t l n f p in
+      let rest = drop (length t) l in
+      let back = read-written (meant c) w rest (omega arith) right q (leb-true _ _ short) in
+      let behind : drop n f ≡ rest = rw (count, leaves, drop-append-seam t rest) in
+      record {
+        value = w;
+        stands = is;
+        element = back .element;
+        fronts = rw (behind, leaves) (back .fronts);
+        covers = ap (λ (x : List ℕ). length x) (back .covers) ∙ sym count;
+        means = back .means;
+        decodes = back .decodes;
+      }
+
+  back-of : (o : Option Value) → valueIn s v ≡ o → Option·elim o true settled ≡ true → Puts (octetsIn (meant c) o) l (Octets n) f → WrittenBack s v c n f
+  unfolding octetsIn octetsOf Option·elim
+  back-of none is q p = absurd (puts-no l n f p)
+  back-of (some w) is q p =
+      by-bool (inRange w && leb (length (valueText (meant c) w)) mostOctets) _
+      (λ h. back-right w is h q (rw h at p))
+      (λ h. absurd (puts-no l n f (rw h at p)))
+
+  pub written-back : Puts (octetsIn (meant c) (valueIn s v)) l (Octets n) f → WrittenBack s v c n f
+  written-back p = back-of (valueIn s v) refl (settled-in s v) p

@@ -1,0 +1,91 @@
+-- The contents of a value's element are its fields, appended one behind the other.
+-- Assumes nothing.
+use Prim.Native.Nat.{ℕ, _+_, _≤_}
+use mathlib.Core.Path.{_≡_}
+use mathlib.Core.List.{List, [], _∷_, _++_}
+use mathlib.Core.Bool.{Bool, true, false, _&&_}
+use lib.ListN.{length}
+use lib.Dec.{leb}
+use native.Mathlib.Omega.{arith}
+use mir.Syntax.{w8}
+use mir.Val.{Fits}
+use borrow.Author.Tests.{leb-true}
+use Rattle.octets.specs.declared.Span.{Span}
+use Rattle.octets.specs.Spans.{textOf}
+use Rattle.octets.specs.Append.{Appends}
+use Rattle.octets.proofs.AppendLaws.{append-nil, append-then}
+use Rattle.bat.specs.declared.Typed.{Typed}
+use Rattle.bat.specs.declared.Timed.{Timed}
+use Rattle.bat.specs.declared.Timed.the-variants.{Untimed, Lasting as LastingFor}
+use Rattle.bat.specs.declared.Value.{Value as ValuePlace}
+use Rattle.bat.specs.declared.Value.the-variants.{Codecs as CodecsPlace, Report, Unit as UnitPlace, Capability}
+use Rattle.bat.specs.Values.{signal, meant}
+use Rattle.bat.specs.Writing.{elementText, wordText, lastingText, bitText, contentsText, inRange}
+use Rattle.bat.specs.Meaning.{kindIn, lastingIn, valueIn}
+use Rattle.bat.proofs.RoundTrip.{and-both}
+use Rattle.bat_write.specs.Texts.{codecsOf, reportOf, inRangeIn, contentsIn, codecsAnew}
+use Rattle.bat_write.proofs.ElementLaws.{octet-then}
+use Rattle.bat_write.proofs.CodecLaws.{codecs-text}
+
+module _ (l f : List ℕ) (at r : ℕ) where
+  -- one octet, and a text that is known by another name
+  pub octet-text : (g t u : List ℕ) (k b : ℕ) → Appends g k t r f → t ≡ u → Appends l at (b ∷ []) k g → Appends l at (b ∷ u) r f
+  octet-text g t u k b q e p = rw e at (octet-then l f at r g k b t q p)
+
+  pub lasting-none : (d : Timed) → d ≡ Untimed → Appends l at (lastingText (lastingIn d)) at l
+  unfolding lastingText lastingIn
+  lasting-none d e = rw e (append-nil l at)
+
+  pub lasting-some : (d : Timed) (c n : ℕ) → d ≡ LastingFor c n → Appends l at (elementText 15 (meant c) (wordText n)) r f → Appends l at (lastingText (lastingIn d)) r f
+  unfolding lastingText lastingIn
+  lasting-some d c n e p = rw e p
+
+  pub signal-then : (g : List ℕ) (k : ℕ) (d : Timed) (t : Typed) → Appends g k (lastingText (lastingIn d)) r f → Appends l at (elementText 14 (meant (t .compatibility)) (t .kind ∷ [])) k g
+      → Appends l at (contentsText (signal (kindIn t) (lastingIn d))) r f
+  unfolding contentsText
+  signal-then g k d t q p = append-then l g f (elementText 14 (meant (t .compatibility)) (t .kind ∷ [])) (lastingText (lastingIn d)) at k r q p
+
+-- ---- a value v whose spans are places in s
+module _ (s l f : List ℕ) (at r : ℕ) (v : ValuePlace) where
+  -- t is what is written for w, which v is
+  pub stands : (w : ValuePlace) (t : List ℕ) → v ≡ w → Appends l at t r f → t ≡ contentsIn (valueIn s w) → Appends l at (contentsIn (valueIn s v)) r f
+  stands w t e p q = rw (e, ← q) p
+
+  pub stands-codecs : (p : Span) (t : List ℕ) → inRangeIn (valueIn s v) ≡ true → v ≡ CodecsPlace p → t ≡ textOf s p → Appends l at (codecsAnew t) r f
+      → Appends l at (contentsIn (valueIn s v)) r f
+  unfolding valueIn
+  stands-codecs p t h e q a =
+      let i : inRangeIn (codecsOf (textOf s p)) ≡ true = rw e at h in
+      let z : Appends l at (codecsAnew (textOf s p)) r f = rw q at a in
+      rw e (rw (codecs-text (textOf s p) i) at z)
+
+  pub stands-report : (n : ℕ) (p : Span) (t : List ℕ) → v ≡ Report n p → t ≡ textOf s p → Appends l at (contentsIn (reportOf n t)) r f → Appends l at (contentsIn (valueIn s v)) r f
+  unfolding valueIn
+  stands-report n p t e q a = rw e (rw q at a)
+
+  pub stands-unit : (n p : Span) (t u : List ℕ) → v ≡ UnitPlace n p → t ≡ textOf s n → u ≡ textOf s p → Appends l at (length t ∷ (t ++ u)) r f → Appends l at (contentsIn (valueIn s v)) r f
+  unfolding valueIn contentsIn contentsText
+  stands-unit n p t u e q o a = rw e (rw (q, o) at a)
+
+  pub stands-capability : (b : Bool) (k : ℕ) → v ≡ Capability b → k ≡ bitText b → Appends l at ((128 + k) ∷ []) r f → Appends l at (contentsIn (valueIn s v)) r f
+  unfolding valueIn contentsIn contentsText
+  stands-capability b k e q a = rw e (rw q at a)
+
+pub ruleset standing = (stands, stands-codecs, stands-report, stands-unit, stands-capability)
+
+-- what the parts of a value that is in range have
+module _ (s : List ℕ) (v : ValuePlace) (h : inRangeIn (valueIn s v) ≡ true) where
+  pub report-right : (n : ℕ) (p : Span) (t : List ℕ) → v ≡ Report n p → t ≡ textOf s p → inRangeIn (reportOf n t) ≡ true
+  unfolding valueIn
+  report-right n p t e q = rw q (rw e at h)
+
+  pub unit-right : (n p : Span) (t : List ℕ) → v ≡ UnitPlace n p → t ≡ textOf s n → length t ≤ 255
+  unfolding valueIn inRangeIn inRange
+  unit-right n p t e q =
+      let z : (leb (length (textOf s n)) 255 && leb 1 (length (textOf s p))) ≡ true = rw e at h in
+      rw q (leb-true _ _ (and-both (leb (length (textOf s n)) 255) (leb 1 (length (textOf s p))) z .0))
+
+-- a bit beside bit 8 is an octet
+pub marked-fits : (b : Bool) (k : ℕ) → k ≡ bitText b → Fits w8 (128 + k)
+marked-fits true k e = omega arith
+marked-fits false k e = omega arith

@@ -1,0 +1,51 @@
+-- A value is in range where the one it stands for is: a test of the text of a span is a test of that value's field.
+-- Assumes nothing.
+use Prim.Native.Nat.{ℕ}
+use mathlib.Core.Path.{_≡_}
+use mathlib.Core.List.{List}
+use mathlib.Core.Bool.{Bool, _&&_}
+use lib.ListN.{length}
+use lib.Dec.{leb}
+use Rattle.octets.specs.declared.Span.{Span}
+use Rattle.octets.specs.Spans.{textOf}
+use Rattle.bat.specs.declared.Value.{Value as ValuePlace}
+use Rattle.bat.specs.declared.Value.the-variants.{Backbone, Address, Codecs as CodecsPlace, Report, Control, Unit as UnitPlace, Indicators}
+use Rattle.bat.specs.Values.{rightIndicators}
+use Rattle.bat.specs.Writing.{inRange}
+use Rattle.bat.specs.Meaning.{valueIn}
+use Rattle.bat_write.specs.Texts.{codecsOf, reportOf, inRangeIn}
+
+module _ (s : List ℕ) (v : ValuePlace) (b : Bool) where
+  pub ranged : (w : ValuePlace) → v ≡ w → b ≡ inRangeIn (valueIn s w) → b ≡ inRangeIn (valueIn s v)
+  ranged w e r = rw e r
+
+  module _ (p : Span) (t : List ℕ) (is : t ≡ textOf s p) where
+    pub ranged-backbone : v ≡ Backbone p → b ≡ (leb 1 (length t) && leb (length t) 4) → b ≡ inRangeIn (valueIn s v)
+    unfolding valueIn inRangeIn inRange
+    ranged-backbone e r = rw (e, ← is) r
+
+    pub ranged-address : v ≡ Address p → b ≡ (leb 1 (length t) && leb (length t) 20) → b ≡ inRangeIn (valueIn s v)
+    unfolding valueIn inRangeIn inRange
+    ranged-address e r = rw (e, ← is) r
+
+    pub ranged-codecs : v ≡ CodecsPlace p → b ≡ inRangeIn (codecsOf t) → b ≡ inRangeIn (valueIn s v)
+    unfolding valueIn
+    ranged-codecs e r = rw (e, ← is) r
+
+    pub ranged-report : (n : ℕ) → v ≡ Report n p → b ≡ inRangeIn (reportOf n t) → b ≡ inRangeIn (valueIn s v)
+    unfolding valueIn
+    ranged-report n e r = rw (e, ← is) r
+
+    pub ranged-control : v ≡ Control p → b ≡ leb 1 (length t) → b ≡ inRangeIn (valueIn s v)
+    unfolding valueIn inRangeIn inRange
+    ranged-control e r = rw (e, ← is) r
+
+    pub ranged-indicators : v ≡ Indicators p → b ≡ rightIndicators t → b ≡ inRangeIn (valueIn s v)
+    unfolding valueIn inRangeIn inRange
+    ranged-indicators e r = rw (e, ← is) r
+
+    pub ranged-unit : (q : Span) (u : List ℕ) → u ≡ textOf s q → v ≡ UnitPlace p q → b ≡ (leb (length t) 255 && leb 1 (length u)) → b ≡ inRangeIn (valueIn s v)
+    unfolding valueIn inRangeIn inRange
+    ranged-unit q u o e r = rw (e, ← is, ← o) r
+
+pub ruleset ranging = (ranged, ranged-backbone, ranged-address, ranged-codecs, ranged-report, ranged-control, ranged-indicators, ranged-unit)

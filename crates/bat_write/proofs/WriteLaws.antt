@@ -1,0 +1,99 @@
+-- The element of a value has the value's identifier and contents, and a buffer of 2,048 octets holds the contents or shows that they are too long.
+-- Assumes nothing.
+use Prim.Native.Nat.{ℕ, _+_, _-_, _≤_, min}
+use mathlib.Core.Path.{_≡_, refl, sym, _∙_}
+use mathlib.Core.List.{List, _++_}
+use mathlib.Core.Bool.{Bool, true, false}
+use mathlib.Core.Option.{Option, none, some, Option·map, Option·elim}
+use lib.ListN.{length, take, drop, length-take}
+use lib.Seq.{take-all, take-at}
+use native.Mathlib.Omega.{arith}
+use Rattle.octets.specs.Spans.{textOf}
+use Rattle.octets.specs.Put.{put}
+use Rattle.octets.specs.Append.{nextOf, appended, Appends}
+use Rattle.octets.proofs.AppendLaws.{length-appends}
+use Rattle.octets.proofs.CaseLaws.{by-le}
+use Rattle.bat.specs.declared.Value.{Value as ValuePlace}
+use Rattle.bat.specs.declared.Value.the-variants.{Action, Backbone, Address, Codecs as CodecsPlace, Single, Report, Characteristics, Control, Tunnelling, Unit as UnitPlace, Signal, Capability, Indicators, SignalType, Duration}
+use Rattle.bat.specs.declared.Put.{Put}
+use Rattle.bat.specs.declared.Put.the-variants.{Refused as RefusedPut}
+use Rattle.bat.specs.Values.{Diagnostic, Value, Codecs, allCodecs, offence, onCodecs, codecsIn, report, diagnosticsIn}
+use Rattle.bat.specs.Writing.{elementText, identifierOf, valueText, octetsOf, octetsIn, putAnswer, putLeaves, Puts}
+use Rattle.bat.specs.Meaning.{valueIn}
+use Rattle.bat_write.specs.Texts.{listOf, inRangeIn, contentsIn, codeOf, bounded}
+use Rattle.bat_write.proofs.PutLaws.{too-long}
+
+-- ---- the identifier
+codecs-coded : (x : Codecs) → Option·elim (listOf x) 4 identifierOf ≡ 4
+unfolding onCodecs Option·elim identifierOf
+codecs-coded (allCodecs cs) = refl
+codecs-coded (offence d) = refl
+
+report-coded : (r : ℕ) (o : Option (List Diagnostic)) → Option·elim (Option·map (report r) o) 6 identifierOf ≡ 6
+unfolding Option·elim identifierOf
+report-coded r none = refl
+report-coded r (some ds) = refl
+
+coded : (s : List ℕ) (v : ValuePlace) → Option·elim (valueIn s v) (codeOf v) identifierOf ≡ codeOf v
+unfolding valueIn codeOf Option·elim identifierOf
+coded s (Action n) = refl
+coded s (Backbone p) = refl
+coded s (Address p) = refl
+coded s (CodecsPlace p) = codecs-coded (codecsIn (textOf s p))
+coded s (Single c) = refl
+coded s (Report r p) = report-coded r (diagnosticsIn (textOf s p))
+coded s (Characteristics n) = refl
+coded s (Control p) = refl
+coded s (Tunnelling b) = refl
+coded s (UnitPlace n l) = refl
+coded s (Signal k t) = refl
+coded s (Capability b) = refl
+coded s (Indicators p) = refl
+coded s (SignalType n) = refl
+coded s (Duration n) = refl
+
+-- ---- the octets
+octets-right : (c i : ℕ) (o : Option Value) → inRangeIn o ≡ true → Option·elim o i identifierOf ≡ i → octetsIn c o ≡ bounded (elementText i c (contentsIn o))
+unfolding inRangeIn contentsIn octetsIn octetsOf valueText bounded Option·elim
+octets-right c i none p q = absurd (let z : _≡_ {A = ℕ} 0 1 = cc in omega arith)
+octets-right c i (some v) p q = rw (p, q)
+
+octets-wrong : (c : ℕ) (o : Option Value) → inRangeIn o ≡ false → octetsIn c o ≡ none
+unfolding inRangeIn octetsIn octetsOf
+octets-wrong c none p = refl
+octets-wrong c (some v) p = rw p
+
+-- what 2,048 octets hold of the contents tells as much of the element
+bounded-cut : (i c : ℕ) (s : List ℕ) → bounded (elementText i c (take 2048 s)) ≡ bounded (elementText i c s)
+bounded-cut i c s =
+    by-le (length s) 2048 _
+    (λ h. rw (take-all 2048 s h))
+    (λ h. too-long i c (take 2048 s) s (simp length-take (omega arith)) ∙ sym (too-long i c s s (omega arith)))
+
+module _ (z g s : List ℕ) (n : ℕ) (p : Appends z 0 s n g) where
+  pub appended-inside : n ≤ length g
+  unfolding nextOf
+  appended-inside = omega (arith, p .next, length-appends z g 0 s n p)
+
+  scratch-text : length z ≡ 2048 → take (n - 0) (drop 0 g) ≡ take 2048 s
+  unfolding nextOf appended put
+  scratch-text h =
+      let next : n ≡ 0 + min (length z - 0) (length s) = p .next in
+      let o : length z - 0 ≡ 2048 = omega arith in
+      let t = take 2048 s in
+      let l : length t ≡ n - 0 = simp length-take (omega arith) in
+      let leaves : g ≡ put z 0 (take (length z - 0) s) = p .leaves in
+      let e : g ≡ t ++ drop (0 + length t) z = rw o at leaves in
+      rw e (take-at t (drop (0 + length t) z) (n - 0) l)
+
+module _ (s l : List ℕ) (c : ℕ) (v : ValuePlace) (t : Bool) (is : t ≡ inRangeIn (valueIn s v)) where
+  pub writes-none : t ≡ false → Puts (octetsIn c (valueIn s v)) l (RefusedPut 5) l
+  unfolding putAnswer putLeaves
+  writes-none e = rw (octets-wrong c (valueIn s v) (sym is ∙ e)) (record { answers = refl; leaves = refl })
+
+  pub writes : (z g : List ℕ) (n i : ℕ) (r : Put) (f : List ℕ) → t ≡ true → Appends z 0 (contentsIn (valueIn s v)) n g → length z ≡ 2048 → i ≡ codeOf v
+      → Puts (bounded (elementText i c (take (n - 0) (drop 0 g)))) l r f → Puts (octetsIn c (valueIn s v)) l r f
+  writes z g n i r f e p h q a =
+      let u = contentsIn (valueIn s v) in
+      let o : octetsIn c (valueIn s v) ≡ bounded (elementText (codeOf v) c u) = octets-right c (codeOf v) (valueIn s v) (sym is ∙ e) (coded s v) in
+      rw (o, ← q, ← bounded-cut i c u, ← scratch-text z g u n p h) a

@@ -1,0 +1,21 @@
+-- The proof of `contents::push_both`. The second text is appended behind the first.
+-- Assumes nothing.
+use borrow.Author.Needs.{needs}
+use Rattle.octets.proofs.AppendLaws.{append-then}
+use Rattle.bat_write.proofs.contents.push_both.Statement.{statement}
+use Rattle.bat_write.proofs.contents.push_both.Tie as tie
+
+push-requires : tie.Need-push-requires
+push-requires c κs = search needs
+
+push-requires-2 : tie.Need-push-requires-2
+push-requires-2 c κs = search needs
+
+same-length : tie.Need-same-length
+same-length c = search needs
+
+returns : tie.Need-returns
+returns c = search (append-then, needs)
+
+pub push-both-spec : {M : Type 1} → statement M
+push-both-spec = tie.close (tie.spec push-requires push-requires-2 same-length returns)

@@ -1,0 +1,65 @@
+-- What stands between a value whose spans are places in octets and the octets of its element: its contents, its
+-- identifier and its length.
+use Prim.Native.Nat.{ℕ, _+_}
+use mathlib.Core.List.{List, [], _++_}
+use mathlib.Core.Bool.{Bool, false, cond}
+use mathlib.Core.Option.{Option, none, some, Option·map}
+use lib.ListN.{length}
+use lib.Dec.{leb, ltb}
+use Rattle.bat.specs.declared.Value.{Value as ValuePlace}
+use Rattle.bat.specs.declared.Value.the-variants.{Action, Backbone, Address, Codecs as CodecsPlace, Single, Report, Characteristics, Control, Tunnelling, Unit as UnitPlace, Signal, Capability, Indicators, SignalType, Duration}
+use Rattle.bat.specs.Framing.{fold, mostOctets}
+use Rattle.bat.specs.Values.{Value, codecs, Codecs, codecsIn, onCodecs, report, diagnosticsIn, meant}
+use Rattle.bat.specs.Writing.{elementText, contentsText, inRange}
+
+-- ---- a value, where there is one
+-- the codec list, where there is no offence
+abbrev pub listOf : Codecs → Option Value
+listOf x = onCodecs x (λ cs. some (codecs cs)) (λ d. none)
+
+-- the codec list that s is
+abbrev pub codecsOf : List ℕ → Option Value
+codecsOf s = listOf (codecsIn s)
+
+-- the report with the reason r whose diagnostics are s
+abbrev pub reportOf : ℕ → List ℕ → Option Value
+reportOf r s = Option·map (report r) (diagnosticsIn s)
+
+unfoldable pub inRangeIn : Option Value → Bool
+inRangeIn none = false
+inRangeIn (some v) = inRange v
+
+unfoldable pub contentsIn : Option Value → List ℕ
+contentsIn none = []
+contentsIn (some v) = contentsText v
+
+-- the identifier of its element
+unfoldable pub codeOf : ValuePlace → ℕ
+codeOf (Action n) = 1
+codeOf (Backbone p) = 2
+codeOf (Address p) = 3
+codeOf (CodecsPlace p) = 4
+codeOf (Single c) = 5
+codeOf (Report r p) = 6
+codeOf (Characteristics n) = 7
+codeOf (Control p) = 8
+codeOf (Tunnelling b) = 9
+codeOf (UnitPlace n l) = 10
+codeOf (Signal k t) = 11
+codeOf (Capability b) = 12
+codeOf (Indicators p) = 13
+codeOf (SignalType n) = 14
+codeOf (Duration n) = 15
+
+-- ---- its octets
+-- The elements of s, each written anew as a single codec: with the shortest length and one compatibility octet.
+unfoldable pub codecsAnew : List ℕ → List ℕ
+codecsAnew s = fold (λ e t. elementText 5 (meant (e .compatibility)) (e .contents) ++ t) [] [] s
+
+-- the octets of an element, where they are not too many
+unfoldable pub bounded : List ℕ → Option (List ℕ)
+bounded t = cond (leb (length t) mostOctets) (some t) none
+
+-- how many octets an element with n octets of contents has
+unfoldable pub elementLength : ℕ → ℕ
+elementLength n = cond (ltb n 127) (n + 3) (n + 4)

@@ -1,0 +1,77 @@
+// Whether the fields of a value are in range.
+ghost use mathlib.Core.Path.{_≡_};
+ghost use mathlib.Core.Bool.{_&&_};
+ghost use lib.ListN.{length};
+ghost use lib.Dec.{leb};
+ghost use Rattle.bat.specs.Values.{rightCodec};
+ghost use Rattle.bat.specs.Meaning.{valueIn, codecIn};
+ghost use Rattle.bat_write.specs.Texts.{codecsOf, reportOf, inRangeIn};
+use bat::Codec;
+use bat::Value;
+use bat_read::Offence;
+use octets::spans::text;
+
+// s is one or more single codecs and nothing else.
+fn are_codecs(s: &[u8]) -> bool
+    ensures { λ r. ⌜ r ≡ inRangeIn (codecsOf (now (s .entry))) ⌝ }
+{
+    if s.len() < 1 {
+        return false;
+    }
+    let x = bat_read::constructors::find_offence(s);
+    match x {
+        Offence::At(_) => false,
+        Offence::Nowhere => true,
+    }
+}
+
+// c is a single codec.
+fn is_codec(c: Codec, source: &[u8]) -> bool
+    ensures { λ r. ⌜ r ≡ rightCodec (codecIn (now (source .entry)) c) ⌝ }
+{
+    let information = c.information;
+    bat::ranges::right_codec(c.organisation, text(source, information))
+}
+
+// s is diagnostics and nothing else; the reason may be any.
+fn are_diagnostics(reason: u8, s: &[u8]) -> bool
+    ensures { λ r. ⌜ r ≡ inRangeIn (reportOf reason (now (s .entry))) ⌝ }
+{
+    s.len() % 3 == 0
+}
+
+// The two are a network id and a local id.
+fn are_unit(network: &[u8], local: &[u8]) -> bool
+    ensures { λ r. ⌜ r ≡ (leb (length (now (network .entry))) 255 && leb 1 (length (now (local .entry)))) ⌝ }
+{
+    if 255 < network.len() {
+        return false;
+    }
+    1 <= local.len()
+}
+
+// The value stands for one whose fields are in range.
+pub(crate) fn in_range(value: Value, source: &[u8]) -> bool
+    ensures { λ r. ⌜ r ≡ inRangeIn (valueIn (now (source .entry)) value) ⌝ }
+{
+    match value {
+        Value::Action(n) => codes::is_action(n),
+        Value::Backbone(p) => bat::ranges::between(text(source, p), 1, 4),
+        Value::Address(p) => bat::ranges::between(text(source, p), 1, 20),
+        Value::Codecs(p) => are_codecs(text(source, p)),
+        Value::Single(c) => is_codec(c, source),
+        Value::Report {
+            reason,
+            diagnostics,
+        } => are_diagnostics(reason, text(source, diagnostics)),
+        Value::Characteristics(n) => n <= 4,
+        Value::Control(p) => 1 <= text(source, p).len(),
+        Value::Tunnelling(_) => true,
+        Value::Unit { network, local } => are_unit(text(source, network), text(source, local)),
+        Value::Signal { kind, duration: _ } => codes::is_signal(kind.kind),
+        Value::Capability(_) => true,
+        Value::Indicators(p) => bat::ranges::are_indicators(text(source, p)),
+        Value::SignalType(n) => codes::is_signal(n),
+        Value::Duration(_) => true,
+    }
+}

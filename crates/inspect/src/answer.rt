@@ -1,0 +1,25 @@
+// The answer to a line, by its mode word.
+use crate::elements;
+use crate::print;
+use crate::rewrite;
+use octets::parts;
+use octets::words;
+
+// Appends what the line's mode answers. A mode has data for the octets that the line's digits stand
+// for, and room for what it writes.
+pub fn push_answer(
+    line: &[u8],
+    data: &mut [u8],
+    room: &mut [u8],
+    out: &mut [u8],
+    at: usize,
+) -> usize {
+    let word = parts::part(line, 32, 0);
+    if words::equals(b"elements", word) {
+        return elements::push_answer(line, data, out, at);
+    }
+    if words::equals(b"rewrite", word) {
+        return rewrite::push_answer(line, data, room, out, at);
+    }
+    print::bad_line(out, at)
+}

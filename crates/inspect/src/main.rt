@@ -1,0 +1,165 @@
+// Shows what the card reads: answers each line of standard input with one line.
+mod answer;
+mod elements;
+mod input;
+mod print;
+mod rewrite;
+mod values;
+mod walk;
+
+use libc::STDIN_FILENO;
+use libc::STDOUT_FILENO;
+
+// Room that is kept for a line of output, so that none is cut. The longest is that of 2,048 octets
+// which are 682 unknown elements: 35 octets for each and 6 more where its diagnostic is listed, under
+// 28,000 in all.
+const LINE: usize = 40960;
+
+// What is kept from octet to octet.
+struct State {
+    // The line that is being gathered (`line_input::gather`).
+    len: usize,
+    over: bool,
+    // How much output waits.
+    at: usize,
+    // Whether the input goes on.
+    going: bool,
+    // Whether the output is taken.
+    taken: bool,
+}
+
+fn start() -> State {
+    State {
+        len: 0,
+        over: false,
+        at: 0,
+        going: true,
+        taken: true,
+    }
+}
+
+// Appends the answer to the line that was gathered.
+fn push_step(line: &[u8], data: &mut [u8], room: &mut [u8], out: &mut [u8], state: State) -> usize {
+    let len = state.len;
+    let at = state.at;
+    if state.over {
+        return print::bad_line(out, at);
+    }
+    if line.len() < len {
+        return print::bad_line(out, at);
+    }
+    answer::push_answer(&line[0..len], data, room, out, at)
+}
+
+// Answers the line that was gathered, and begins the next.
+fn step(line: &[u8], data: &mut [u8], room: &mut [u8], out: &mut [u8], state: State) -> State {
+    let mut st = state;
+    let k = push_step(line, data, room, out, st);
+    st.at = octets::append::push_octet(10, out, k);
+    st.len = 0;
+    st.over = false;
+    st
+}
+
+// Writes the waiting output.
+fn flush(out: &[u8], state: State) -> State {
+    let mut st = state;
+    let at = st.at;
+    st.at = 0;
+    if at <= out.len() {
+        st.taken = io::write_all(STDOUT_FILENO, &out[0..at]);
+    } else {
+        st.taken = false;
+    }
+    st
+}
+
+// Writes the waiting output where there may be no room for a line more.
+fn make_room(out: &[u8], state: State) -> State {
+    let st = state;
+    let at = st.at;
+    if out.len() < LINE {
+        return flush(out, st);
+    }
+    if out.len() - LINE < at {
+        return flush(out, st);
+    }
+    st
+}
+
+// The lines that end in part, and the beginning of the next. (`next` is always past i; the test shows
+// that the loop ends.)
+fn feed(
+    part: &[u8],
+    line: &mut [u8],
+    data: &mut [u8],
+    room: &mut [u8],
+    out: &mut [u8],
+    state: State,
+) -> State {
+    let mut st = state;
+    let mut i = 0;
+    while i < part.len() && st.taken {
+        let g = line_input::gather(part, i, line, st.len, st.over);
+        let next = g.next;
+        if next <= i {
+            return st;
+        }
+        i = next;
+        st.len = g.len;
+        st.over = g.over;
+        if g.ended {
+            st = step(line, data, room, out, st);
+            st = make_room(out, st);
+        }
+    }
+    st
+}
+
+// Reads once and answers what came.
+fn turn(
+    part: &mut [u8],
+    line: &mut [u8],
+    data: &mut [u8],
+    room: &mut [u8],
+    out: &mut [u8],
+    state: State,
+) -> State {
+    let mut st = state;
+    let got = libc::read(STDIN_FILENO, part);
+    if got <= 0 {
+        st.going = false;
+        return st;
+    }
+    let n = io::count(got, part);
+    st = feed(&part[..n], line, data, room, out, st);
+    if st.taken {
+        return flush(out, st);
+    }
+    st
+}
+
+// Answers each line of the input, to its end. A last line with no LF is a line as the others.
+// Nothing says that the input ends, so the loop counts its turns down from a number that no run uses up.
+fn run(part: &mut [u8], line: &mut [u8], data: &mut [u8], room: &mut [u8], out: &mut [u8]) {
+    let mut st = start();
+    let mut turns = u64::MAX;
+    while turns > 0 && st.going && st.taken {
+        st = turn(part, line, data, room, out, st);
+        turns -= 1;
+    }
+    if st.taken && 0 < st.len {
+        st = step(line, data, room, out, st);
+        flush(out, st);
+    }
+}
+
+// A line has at most 16,384 octets with its LF, so its digits stand for fewer than 8,192.
+fn main() {
+    let mut part = io::large_buffer();
+    let mut line = [0u8; 16383];
+    let mut data = [0u8; 8192];
+    let mut room = io::large_buffer();
+    let mut out = io::large_buffer();
+    run(&mut part, &mut line, &mut data, &mut room, &mut out);
+}

@@ -1,0 +1,37 @@
+#!/usr/bin/env bash
+# vectors.sh [PROGRAM]: runs every tests/vectors/MODE.in through inspect, each line behind its mode
+# word, and compares what comes out with MODE.out. Run from the repository's root; PROGRAM is the
+# built inspect, target/bin/inspect unless given. Ends with status 1 where a line differs.
+set -u
+program=${1:-target/bin/inspect}
+if [ ! -x "$program" ]; then
+    echo "no program $program (rt check inspect builds it)" >&2
+    exit 2
+fi
+got=$(mktemp)
+trap 'rm -f "$got"' EXIT
+status=0
+for in in tests/vectors/*.in; do
+    mode=$(basename "$in" .in)
+    want=tests/vectors/$mode.out
+    sed "s/^/$mode /" "$in" | "$program" > "$got"
+    if cmp -s "$got" "$want"; then
+        echo "$mode: $(wc -l < "$want") lines agree"
+        continue
+    fi
+    status=1
+    awk -v mode="$mode" -v want="$want" -v in_="$in" '
+        {
+            if ((getline w < want) <= 0) w = "(no line)"
+            getline i < in_
+            if ($0 != w) {
+                printf "%s: line %d differs\n  in   %s\n  want %s\n  got  %s\n", mode, NR, i, w, $0
+                differs = 1
+                exit
+            }
+        }
+        END {
+            if (!differs) printf "%s: only %d lines came out\n", mode, NR
+        }' "$got"
+done
+exit $status
