@@ -1,5 +1,6 @@
--- Document 01, "Elements", first two paragraphs (Q.765.5, 4.6.1.1): the four fields of an element, and
--- how application data is cut into elements. Numbers 1, 2 and 3.
+-- Document 01, "Elements", the first two paragraphs (Q.765.5, 4.6.1.1): the four fields of an element, and how
+-- application data is cut into elements. Numbers 1, 2 and 3. Stricter than 4.6.1.1, which sets no bound: data
+-- has at most 2,048 octets, and a length is not 0, since it counts a compatibility octet.
 use Prim.Native.Nat.{ℕ, zero, suc, _+_, _*_, _%_}
 use mathlib.Core.List.{List, [], _∷_, _++_}
 use mathlib.Core.Bool.{Bool, cond}
@@ -22,10 +23,10 @@ pub data Length : Type 0 where
   sized : List ℕ → ℕ → List ℕ → Length
   unsized : Length
 
--- The length at the front of s. The first octet has the seven low bits; where its bit 8 is 0 a second
--- one follows, whose bits 4 to 1 are the high bits, whose bit 8 is 1 and whose other bits say nothing.
--- So a small length may have the longer form. There is none where an octet is missing or the second
--- would go on.
+-- The length at the front of s, in one octet or two. Bit 8 of the first says that it is the last; its other bits
+-- are the low ones of the number. A second octet, which has to be the last, adds bits 4 to 1 above them, and
+-- its bits 7 to 5 say nothing. So a small number can stand in two octets. Where an octet is missing, or the
+-- second says that it goes on, there is no length.
 unfoldable pub lengthOf : List ℕ → Length
 lengthOf [] = unsized
 lengthOf (a ∷ []) = cond (bit8 a) (sized (a ∷ []) (a % 128) []) unsized
@@ -34,15 +35,15 @@ lengthOf (a ∷ b ∷ s) =
     (cond (bit8 b) (sized (a ∷ b ∷ []) (a % 128 + b % 16 * 128) s) unsized)
 
 -- ---- compatibility
--- Compatibility octets run to the first that has bit 8 set. How many octets of s stand in front of that
--- one; all of them where there is none.
+-- The last compatibility octet is the first that has bit 8 set. How many octets of s stand before it; all of them
+-- where there is none.
 unfoldable pub unmarked : List ℕ → ℕ
 unmarked [] = 0
 unmarked (b ∷ s) = cond (bit8 b) 0 (suc (unmarked s))
 
 -- ---- element
--- Identifier, length, compatibility, contents. Only the first compatibility octet has a meaning;
--- `extension` are those behind it.
+-- Its fields in their order. `size` are the octets of the length; `compatibility` is the first compatibility
+-- octet, the one that means something, and `extension` are the others.
 pub record Element : Type 0 where
   pub identifier : ℕ
   pub size : List ℕ

@@ -1,5 +1,5 @@
--- Document 01, "Elements", last paragraphs (Q.765.5, 4.6.1.1 c and 4.6.1.8 b): what is made of an
--- unrecognised element by its compatibility octet, and of the data as a whole.
+-- Document 01, "Elements", the last two paragraphs (Q.765.5, 4.6.1.1, figure 9, and 4.6.1.8 b): what is made of
+-- an element that is not recognised, by its first compatibility octet, and what of the data.
 use Prim.Native.Nat.{ℕ, _+_, _/_, _%_}
 use mathlib.Core.List.{List, [], _∷_, _++_, map}
 use mathlib.Core.Bool.{Bool, true, false, not, _&&_, _||_, cond}
@@ -11,8 +11,8 @@ use Rattle.bat.specs.Framing.{Element, head, Cut, refused, taken, cut}
 use Rattle.bat.specs.Values.{Diagnostic, Value, Reading, decoded, unrecognised, reading}
 
 -- ---- the diagnostic
--- The index is 0 at top level and for an empty constructor; otherwise the distance from the constructor's
--- identifier to that of the inner element at fault, which stands behind the constructor's head.
+-- Its index: 0 for a fault of the element itself. The octets of a constructor's head stand between its
+-- identifier and its contents, so they are added to the place in the contents.
 unfoldable pub indexBy : ℕ → Place → ℕ
 indexBy n Itself = 0
 indexBy n (Inner d) = n + d
@@ -46,7 +46,7 @@ unfoldable pub judgement : Bool → ℕ → ℕ → ℕ → Judgement
 judgement pass i c index =
     record { outcome = outcomeOf pass c; notice = noticeOf pass c; diagnostic = record { identifier = i; index = index } }
 
--- An element is decoded, or judged.
+-- What is made of an element: its value, or the judgement of one that is not recognised.
 pub data Verdict : Type 0 where
   known : Value → Verdict
   unknown : Judgement → Verdict
@@ -59,7 +59,7 @@ unfoldable pub verdict : Bool → Element → Verdict
 verdict pass e = verdictBy pass e (reading (e .identifier) (e .contents))
 
 -- ---- the data
--- A diagnostic is listed when the outcome is 1 or 2 and notice is asked.
+-- Listed are the diagnostics of elements that ask notice and to be discarded, alone or with the data.
 unfoldable pub isListed : Judgement → Bool
 isListed j = (eqb (j .outcome) 1 || eqb (j .outcome) 2) && j .notice
 
@@ -81,7 +81,8 @@ unfoldable pub someSays : ℕ → List Verdict → Bool
 someSays n [] = false
 someSays n (v ∷ vs) = says n v || someSays n vs
 
--- The data's outcome is release if any element says so, else discard data if any, else neither (0).
+-- The data's outcome: one element that says release (3) is enough for it; failing that, one that says discard data
+-- (2); and failing that it is neither (0).
 unfoldable pub dataOutcome : List Verdict → ℕ
 dataOutcome vs = cond (someSays 3 vs) 3 (cond (someSays 2 vs) 2 0)
 

@@ -1,5 +1,6 @@
--- Document 01, "Elements", the list of identifiers (Q.765.5, 4.6.1.2 to 4.6.1.17): each element is
--- either decoded, by its identifier and its contents, or unrecognised.
+-- Document 01, "Elements", the list of identifiers, in the order of Q.765.5 (4.6.1.2 to 4.6.1.17): what the
+-- contents of an element are decoded as, if they are. Where Q.765.5 leaves a code spare or a length open,
+-- document 01's ranges decide: outside them the element is not recognised.
 use Prim.Native.Nat.{ℕ, suc, _+_, _*_, _%_}
 use mathlib.Core.List.{List, [], _∷_}
 use mathlib.Core.Bool.{Bool, true, false, _&&_, cond}
@@ -12,8 +13,8 @@ use Rattle.bat.specs.declared.Place.the-variants.{Itself, Inner}
 use Rattle.bat.specs.Framing.{octet, unmarked, Element, whole, front, onFront, walk}
 
 -- ---- values
--- An element that a compatibility report names, and the distance in octets from its identifier to that
--- of the inner element at fault; 0 where it is at fault itself.
+-- What a compatibility report says of one element: its identifier, and how many octets behind that the
+-- identifier of the inner element at fault stands; 0 where the fault is its own.
 pub record Diagnostic : Type 0 where
   pub identifier : ℕ
   pub index : ℕ
@@ -70,8 +71,8 @@ pub data Value : Type 0 where
   -- 15
   duration : ℕ → Value
 
--- An element is decoded as a value, or unrecognised. The place says what is at fault: the element
--- itself, or first the inner element that stands so many octets behind the front of the contents.
+-- An element is decoded as a value, or it is not recognised. The place says what is at fault: the element
+-- itself, or the first faulty inner element, by how many octets of the contents stand before it.
 pub data Reading : Type 0 where
   decoded : Value → Reading
   unrecognised : Place → Reading
@@ -87,21 +88,22 @@ meant c = c % 128
 abbrev pub bit1 : ℕ → Bool
 bit1 b = eqb (b % 2) 1
 
--- ---- each identifier, from its contents
--- 1 action: one octet, 0 to 24
+-- ---- simple elements
+-- 1, action (4.6.1.3): a single octet, whose code is an action's
 unfoldable pub actionIn : List ℕ → Reading
 actionIn s = cond (eqb (length s) 1) (cond (isAction (octet 0 s)) (decoded (action (octet 0 s))) wrong) wrong
 
--- 2 backbone connection: 1 to 4 octets
+-- 2, backbone connection identifier (4.6.1.4): no more than four octets, but some
 unfoldable pub backboneIn : List ℕ → Reading
 backboneIn s = cond (leb 1 (length s) && leb (length s) 4) (decoded (backbone s)) wrong
 
--- 3 interworking address: 1 to 20 octets
+-- 3, address of the interworking function (4.6.1.5): no more than twenty octets, but some
 unfoldable pub addressIn : List ℕ → Reading
 addressIn s = cond (leb 1 (length s) && leb (length s) 20) (decoded (address s)) wrong
 
--- 5 single codec: organisation 0, 1 or 2 and at least one more octet. For 1 (ITU-T) the next is the type,
--- 0 to 12, and types 1 to 6 have nothing after it; other configuration octets are carried
+-- 5, single codec (4.6.1.7): an organisation up to 2, and what it says of the codec, which is not nothing. The
+-- ITU-T (1) begins with a type, up to 12, and its types 1 to 6 take no configuration. Configuration that is
+-- there is kept as it stands.
 unfoldable pub ituCodec : List ℕ → Bool
 ituCodec s = cond (leb (octet 0 s) 12) (cond (leb 1 (octet 0 s) && leb (octet 0 s) 6) (eqb (length s) 1) true) false
 
@@ -117,7 +119,8 @@ codecOf s = record { organisation = octet 0 s; information = drop 1 s }
 unfoldable pub singleIn : List ℕ → Reading
 singleIn s = cond (rightCodec (codecOf s)) (decoded (single (codecOf s))) wrong
 
--- 6 compatibility report: a reason octet, then zero or more diagnostics of three octets
+-- 6, compatibility report (4.6.1.8): a reason, of whatever code, and any number of diagnostics, each an
+-- identifier and sixteen bits of index
 unfoldable pub diagnosticsIn : List ℕ → Option (List Diagnostic)
 diagnosticsIn [] = some []
 diagnosticsIn (i ∷ []) = none
@@ -129,29 +132,30 @@ unfoldable pub reportIn : List ℕ → Reading
 reportIn [] = wrong
 reportIn (r ∷ s) = Option·elim (diagnosticsIn s) wrong (λ ds. decoded (report r ds))
 
--- 7 connection characteristics: one octet, 0 to 4
+-- 7, bearer network connection characteristics (4.6.1.9): a single octet, no more than 4
 unfoldable pub characteristicsIn : List ℕ → Reading
 characteristicsIn s = cond (eqb (length s) 1) (cond (leb (octet 0 s) 4) (decoded (characteristics (octet 0 s))) wrong) wrong
 
--- 8 bearer control information: 1 octet or more
+-- 8, bearer control information (4.6.1.10): whatever there is, but something
 unfoldable pub controlIn : List ℕ → Reading
 controlIn s = cond (leb 1 (length s)) (decoded (control s)) wrong
 
--- 9 tunnelling: one octet, bit 1 read, the rest ignored
+-- 9, bearer control tunnelling (4.6.1.11): a single octet, of which bit 1 alone says anything
 unfoldable pub tunnellingIn : List ℕ → Reading
 tunnellingIn s = cond (eqb (length s) 1) (decoded (tunnelling (bit1 (octet 0 s)))) wrong
 
--- 10 control unit: octet n, n octets of network id, at least one octet of local id
+-- 10, bearer control unit identifier (4.6.1.12): the length of a network id, 0 too, that id, and a local id,
+-- which is not empty
 unfoldable pub unitIn : List ℕ → Reading
 unitIn [] = wrong
 unitIn (n ∷ s) = cond (ltb n (length s)) (decoded (controlUnit (take n s) (drop n s))) wrong
 
--- 12 redirection capability: octets of which exactly the last has bit 8 set, so that it is the first that
--- has; bit 1 of the first octet read
+-- 12, bearer redirection capability (4.6.1.14): octets that go on to the first with bit 8 set, and end there; the
+-- capability is bit 1 of the first of them
 unfoldable pub capabilityIn : List ℕ → Reading
 capabilityIn s = cond (eqb (suc (unmarked s)) (length s)) (decoded (capability (bit1 (octet 0 s)))) wrong
 
--- 13 redirection indicators: 1 to 16 octets, each 0 to 11
+-- 13, bearer redirection indicators (4.6.1.15): no more than sixteen codes of indicators, but some
 unfoldable pub allIndicators : List ℕ → Bool
 allIndicators [] = true
 allIndicators (b ∷ s) = isIndicator b && allIndicators s
@@ -162,14 +166,14 @@ rightIndicators s = cond (leb 1 (length s) && leb (length s) 16) (allIndicators 
 unfoldable pub indicatorsIn : List ℕ → Reading
 indicatorsIn s = cond (rightIndicators s) (decoded (indicators s)) wrong
 
--- 14 signal type: one octet, 0 to 15 or 64 to 83
+-- 14, signal type (4.6.1.16): a single octet, whose code is a signal's
 unfoldable pub rightType : List ℕ → Bool
 rightType s = eqb (length s) 1 && isSignal (octet 0 s)
 
 unfoldable pub typeIn : List ℕ → Reading
 typeIn s = cond (rightType s) (decoded (signalType (octet 0 s))) wrong
 
--- 15 duration: two octets, most significant first
+-- 15, duration (4.6.1.17): sixteen bits, the high octet first
 abbrev pub durationOf : List ℕ → ℕ
 durationOf s = octet 0 s * 256 + octet 1 s
 
@@ -177,11 +181,12 @@ unfoldable pub durationIn : List ℕ → Reading
 durationIn s = cond (eqb (length s) 2) (decoded (duration (durationOf s))) wrong
 
 -- ---- constructors
--- A constructor stands or falls whole. Where it falls, the place is its own if it is empty, and else that
--- of its first offending inner element: wrong, unframed or out of place.
+-- A constructor is decoded only if everything in it is. If not, it is at fault itself where it is empty, and else
+-- the place is that of the first inner element that is not what should stand there: another identifier,
+-- other contents, or octets that make no element.
 
--- 4 codec list: one or more of 5.
--- the codecs, or the distance of the first offence from the front of the contents
+-- 4, codec list (4.6.1.6): single codecs one behind the other, and at least one.
+-- the codecs, or how many octets of the contents stand before the first offence
 pub data Codecs : Type 0 where
   allCodecs : List ListedCodec → Codecs
   offence : ℕ → Codecs
@@ -210,7 +215,7 @@ unfoldable pub codecListIn : List ℕ → Reading
 codecListIn s =
     cond (eqb (length s) 0) wrong (onCodecs (codecsIn s) (λ cs. decoded (codecs cs)) (λ d. unrecognised (Inner d)))
 
--- 11 signal: a 14, then at most one 15.
+-- 11, signal (4.6.1.13): a signal type, and behind it a duration or nothing.
 unfoldable pub isType : Element → Bool
 isType e = eqb (e .identifier) 14 && rightType (e .contents)
 
@@ -241,7 +246,7 @@ unfoldable pub signalIn : List ℕ → Reading
 signalIn s = onFront (front s) signalBy (unrecognised (Inner 0)) wrong
 
 -- ---- by identifier
--- All else, national codes too, is unrecognised.
+-- An identifier that is not among these is unrecognised whatever the contents; so are those for national use.
 unfoldable pub reading : ℕ → List ℕ → Reading
 reading i s =
     cond (eqb i 1) (actionIn s)

@@ -1,5 +1,6 @@
--- Document 01, "Elements", on writing: the shortest length, ignored bits as 0, one compatibility octet with
--- bit 8 set, a whole element of at most 2,048 octets. Numbers 5 and 4.
+-- Document 01, "Elements" and "Refusal numbers", what they say of writing: the one form in which an element is
+-- written, and numbers 5 and 4. A length takes no more octets than it needs, bits that say nothing are 0, and
+-- one compatibility octet stands for all.
 use Prim.Native.Nat.{ℕ, suc, _+_, _/_, _%_}
 use mathlib.Core.Path.{_≡_}
 use mathlib.Core.List.{List, [], _∷_, _++_}

@@ -1,9 +1,9 @@
+-- `asks` meets its contract: each outcome has its number, which is what is asked for the data.
+-- Assumes nothing.
 use Rattle.bat_read.proofs.OutcomeLaws.{asking}
 use borrow.Author.Needs.{needs}
 use Rattle.bat_read.proofs.asks.Statement.{statement}
 use Rattle.bat_read.proofs.asks.Tie as tie
-use Rattle.bat_read.proofs.asks.Reads as reads
-use Rattle.bat_read.proofs.asks.Lts as lts
 
 enum-told : tie.Need-enum-told
 enum-told c = search needs

@@ -1,24 +1,9 @@
+-- `decode` meets its contract: each identifier leads to one case of `reading`.
+-- Assumes nothing.
 use Rattle.bat_read.proofs.ReadLaws.{readings}
 use borrow.Author.Needs.{needs}
 use Rattle.bat_read.proofs.decode.Statement.{statement}
 use Rattle.bat_read.proofs.decode.Tie as tie
-use Rattle.bat_read.proofs.decode.Reads as reads
-use Rattle.bat_read.proofs.decode.Lts as lts
-use Rattle.bat_read.proofs.constructors.codec_list.Reads as codec-list-reads
-use Rattle.bat_read.proofs.constructors.signal.Reads as signal-reads
-use Rattle.bat_read.proofs.simple.action.Reads as action-reads
-use Rattle.bat_read.proofs.simple.address.Reads as address-reads
-use Rattle.bat_read.proofs.simple.backbone.Reads as backbone-reads
-use Rattle.bat_read.proofs.simple.capability.Reads as capability-reads
-use Rattle.bat_read.proofs.simple.characteristics.Reads as characteristics-reads
-use Rattle.bat_read.proofs.simple.control.Reads as control-reads
-use Rattle.bat_read.proofs.simple.duration.Reads as duration-reads
-use Rattle.bat_read.proofs.simple.indicators.Reads as indicators-reads
-use Rattle.bat_read.proofs.simple.report.Reads as report-reads
-use Rattle.bat_read.proofs.simple.signal_type.Reads as signal-type-reads
-use Rattle.bat_read.proofs.simple.single.Reads as single-reads
-use Rattle.bat_read.proofs.simple.tunnelling.Reads as tunnelling-reads
-use Rattle.bat_read.proofs.simple.unit.Reads as unit-reads
 
 action-requires : tie.Need-action-requires
 action-requires c κs = search needs

@@ -1,11 +1,9 @@
+-- `examine_first` meets its contract: each answer of the framing is one case of `examine`.
+-- Assumes nothing.
 use Rattle.bat_read.proofs.VerdictLaws.{examined}
 use borrow.Author.Needs.{needs}
 use Rattle.bat_read.proofs.examine_first.Statement.{statement}
 use Rattle.bat_read.proofs.examine_first.Tie as tie
-use Rattle.bat_read.proofs.examine_first.Reads as reads
-use Rattle.bat_read.proofs.examine_first.Lts as lts
-use Rattle.bat.proofs.framing.first_element.Reads as first-element-reads
-use Rattle.bat_read.proofs.judge_frame.Reads as judge-frame-reads
 
 first-element-requires : tie.Need-first-element-requires
 first-element-requires c κs = search needs

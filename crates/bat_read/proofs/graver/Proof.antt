@@ -1,9 +1,9 @@
+-- `graver` meets its contract: the numbers are ordered as the outcomes are grave.
+-- Assumes nothing.
 use Rattle.bat_read.proofs.OutcomeLaws.{graver}
 use borrow.Author.Needs.{needs}
 use Rattle.bat_read.proofs.graver.Statement.{statement}
 use Rattle.bat_read.proofs.graver.Tie as tie
-use Rattle.bat_read.proofs.graver.Reads as reads
-use Rattle.bat_read.proofs.graver.Lts as lts
 
 enum-told : tie.Need-enum-told
 enum-told c = search needs

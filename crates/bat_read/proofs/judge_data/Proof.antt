@@ -1,11 +1,9 @@
+-- `judge_data` meets its contract: data that is taken has elements, whose gravest outcome is that of the data.
+-- Assumes nothing.
 use Rattle.bat_read.proofs.OutcomeLaws.{telling}
 use borrow.Author.Needs.{needs}
 use Rattle.bat_read.proofs.judge_data.Statement.{statement}
 use Rattle.bat_read.proofs.judge_data.Tie as tie
-use Rattle.bat_read.proofs.judge_data.Reads as reads
-use Rattle.bat_read.proofs.judge_data.Lts as lts
-use Rattle.bat.proofs.framing.count.Reads as count-reads
-use Rattle.bat_read.proofs.outcome.Reads as outcome-reads
 
 count-requires : tie.Need-count-requires
 count-requires c κs = search needs

@@ -1,14 +1,9 @@
+-- `judge_frame` meets its contract: what the contents are read as decides the verdict, and the place at fault lies in contents that are short.
+-- Assumes nothing.
 use Rattle.bat_read.proofs.VerdictLaws.{verdicts, index-small}
 use borrow.Author.Needs.{needs}
 use Rattle.bat_read.proofs.judge_frame.Statement.{statement}
 use Rattle.bat_read.proofs.judge_frame.Tie as tie
-use Rattle.bat_read.proofs.judge_frame.Reads as reads
-use Rattle.bat_read.proofs.judge_frame.Lts as lts
-use Rattle.bat.proofs.framing.contents.Reads as contents-reads
-use Rattle.bat.proofs.framing.head_length.Reads as head-length-reads
-use Rattle.bat.proofs.judging.judge.Reads as judge-reads
-use Rattle.bat_read.proofs.decode.Reads as decode-reads
-use Rattle.bat_read.proofs.index.Reads as index-reads
 
 contents-requires : tie.Need-contents-requires
 contents-requires c κs = search needs

@@ -1,10 +1,9 @@
+-- `lists` meets its contract: whether the diagnostic is listed decides what the verdict adds.
+-- Assumes nothing.
 use Rattle.bat_read.proofs.ListedLaws.{owning}
 use borrow.Author.Needs.{needs}
 use Rattle.bat_read.proofs.lists.Statement.{statement}
 use Rattle.bat_read.proofs.lists.Tie as tie
-use Rattle.bat_read.proofs.lists.Reads as reads
-use Rattle.bat_read.proofs.lists.Lts as lts
-use Rattle.bat.proofs.judging.is_listed.Reads as is-listed-reads
 
 enum-told : tie.Need-enum-told
 enum-told c = search needs

@@ -1,3 +1,5 @@
+-- `next_listed` meets its contract: what is listed from the place on is always what is listed from the start.
+-- Assumes nothing.
 use Prim.Native.Nat.{_-_}
 use mathlib.Core.Path.{_≡_}
 use lib.ListN.{length, drop}
@@ -7,12 +9,6 @@ use Rattle.bat_read.proofs.ListedLaws.{finding, list-next, list-more}
 use borrow.Author.Needs.{needs}
 use Rattle.bat_read.proofs.next_listed.Statement.{statement}
 use Rattle.bat_read.proofs.next_listed.Tie as tie
-use Rattle.bat_read.proofs.next_listed.Reads as reads
-use Rattle.bat_read.proofs.next_listed.Lts as lts
-use Rattle.bat.proofs.framing.whole_length.Reads as whole-length-reads
-use Rattle.bat_read.proofs.examine_first.Reads as examine-first-reads
-use Rattle.bat_read.proofs.lists.Reads as lists-reads
-use Rattle.octets.proofs.spans.after.Reads as after-reads
 
 abbrev Inv-loop : tie.InvT-loop
 Inv-loop «data» from pass at₀ at = listedFrom pass (drop at «data») ≡ listedFrom pass (drop from «data»)

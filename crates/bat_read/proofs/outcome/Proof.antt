@@ -1,3 +1,5 @@
+-- `outcome` meets its contract: the gravest so far and the gravest of those to come are always the gravest of all.
+-- Assumes nothing.
 use native.Mathlib.Omega.{arith}
 use Prim.Native.Nat.{_-_, max}
 use mathlib.Core.Path.{_≡_}
@@ -8,13 +10,6 @@ use Rattle.bat_read.proofs.OutcomeLaws.{outcomes, seen-fits, seen-falls
 use borrow.Author.Needs.{needs}
 use Rattle.bat_read.proofs.outcome.Statement.{statement}
 use Rattle.bat_read.proofs.outcome.Tie as tie
-use Rattle.bat_read.proofs.outcome.Reads as reads
-use Rattle.bat_read.proofs.outcome.Lts as lts
-use Rattle.bat.proofs.framing.whole_length.Reads as whole-length-reads
-use Rattle.bat_read.proofs.asks.Reads as asks-reads
-use Rattle.bat_read.proofs.examine_first.Reads as examine-first-reads
-use Rattle.bat_read.proofs.graver.Reads as graver-reads
-use Rattle.octets.proofs.spans.after.Reads as after-reads
 
 abbrev Inv-loop : tie.InvT-loop
 Inv-loop «data» pass worst₀ at₀ worst at = max (dataNumber worst) (gravest pass (drop at «data»)) ≡ gravest pass «data»

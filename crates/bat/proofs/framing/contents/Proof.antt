@@ -1,11 +1,9 @@
+-- `framing::contents` meets its contract: the text behind the head is what the frame stands for.
+-- Assumes nothing.
 use Rattle.bat.proofs.FrameLaws.{text-contents}
 use borrow.Author.Needs.{needs}
 use Rattle.bat.proofs.framing.contents.Statement.{statement}
 use Rattle.bat.proofs.framing.contents.Tie as tie
-use Rattle.bat.proofs.framing.contents.Reads as reads
-use Rattle.bat.proofs.framing.contents.Lts as lts
-use Rattle.bat.proofs.framing.head_length.Reads as head-length-reads
-use Rattle.octets.proofs.spans.text.Reads as text-reads
 
 head-length-requires : tie.Need-head-length-requires
 head-length-requires c κs = search needs

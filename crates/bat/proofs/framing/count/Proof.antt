@@ -1,10 +1,9 @@
+-- `framing::count` meets its contract: the tests follow the order of numbers 1, 2 and 3, and a law for each says what `cut` then is.
+-- Assumes nothing.
 use Rattle.bat.proofs.CountLaws.{cuts}
 use borrow.Author.Needs.{needs}
 use Rattle.bat.proofs.framing.count.Statement.{statement}
 use Rattle.bat.proofs.framing.count.Tie as tie
-use Rattle.bat.proofs.framing.count.Reads as reads
-use Rattle.bat.proofs.framing.count.Lts as lts
-use Rattle.bat.proofs.framing.count_elements.Reads as count-elements-reads
 
 returns : tie.Need-returns
 returns c = search (cuts, needs)

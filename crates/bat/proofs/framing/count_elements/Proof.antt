@@ -1,3 +1,5 @@
+-- `framing::count_elements` meets its contract: those counted and those still to count, from the place on, are always the elements of the data.
+-- Assumes nothing.
 use Prim.Native.Nat.{_≤_, _-_}
 use mathlib.Core.Path.{_≡_}
 use lib.ListN.{length, drop}
@@ -7,11 +9,6 @@ use Rattle.bat.proofs.CountLaws.{counts, counted, counted-zero, places}
 use borrow.Author.Needs.{needs}
 use Rattle.bat.proofs.framing.count_elements.Statement.{statement}
 use Rattle.bat.proofs.framing.count_elements.Tie as tie
-use Rattle.bat.proofs.framing.count_elements.Reads as reads
-use Rattle.bat.proofs.framing.count_elements.Lts as lts
-use Rattle.bat.proofs.framing.first_element.Reads as first-element-reads
-use Rattle.bat.proofs.framing.whole_length.Reads as whole-length-reads
-use Rattle.octets.proofs.spans.after.Reads as after-reads
 
 abbrev Inv-loop : tie.InvT-loop
 Inv-loop «data» at₀ n₀ at n = (n ≤ at) × (at ≤ length «data») × (counted n (elements (drop at «data»)) ≡ countIn (elements «data»))

@@ -1,3 +1,5 @@
+-- `framing::count_unmarked` meets its contract: those passed and those still unmarked, from the place on, are always the unmarked octets of the slice.
+-- Assumes nothing.
 use Prim.Native.Nat.{_+_, _-_}
 use mathlib.Core.Path.{_≡_}
 use lib.ListN.{length, drop}
@@ -6,8 +8,6 @@ use Rattle.bat.proofs.FrameLaws.{marks}
 use borrow.Author.Needs.{needs}
 use Rattle.bat.proofs.framing.count_unmarked.Statement.{statement}
 use Rattle.bat.proofs.framing.count_unmarked.Tie as tie
-use Rattle.bat.proofs.framing.count_unmarked.Reads as reads
-use Rattle.bat.proofs.framing.count_unmarked.Lts as lts
 
 abbrev Inv-loop : tie.InvT-loop
 Inv-loop s i₀ i = i + unmarked (drop i s) ≡ unmarked s

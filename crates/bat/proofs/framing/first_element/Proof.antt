@@ -1,15 +1,10 @@
+-- `framing::first_element` meets its contract: each way that the code leaves is one case of `front`; the last names its facts one by one, since they are many.
+-- Assumes nothing.
 use Rattle.bat.proofs.FrameLaws.{fronts, front-framed}
 use native.Mathlib.Omega.{arith}
 use borrow.Author.Needs.{needs}
 use Rattle.bat.proofs.framing.first_element.Statement.{statement}
 use Rattle.bat.proofs.framing.first_element.Tie as tie
-use Rattle.bat.proofs.framing.first_element.Reads as reads
-use Rattle.bat.proofs.framing.first_element.Lts as lts
-use Rattle.bat.proofs.framing.count_unmarked.Reads as count-unmarked-reads
-use Rattle.bat.proofs.framing.octet_at.Reads as octet-at-reads
-use Rattle.bat.proofs.framing.read_size.Reads as read-size-reads
-use Rattle.octets.proofs.spans.after.Reads as after-reads
-use Rattle.octets.proofs.spans.up_to.Reads as up-to-reads
 
 returns : tie.Need-returns
 returns c = search (fronts, needs)

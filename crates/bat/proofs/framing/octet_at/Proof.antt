@@ -1,9 +1,9 @@
+-- `framing::octet_at` meets its contract: past the end `getD` has its default.
+-- Assumes nothing.
 use Rattle.bat.proofs.FrameLaws.{octet-none}
 use borrow.Author.Needs.{needs}
 use Rattle.bat.proofs.framing.octet_at.Statement.{statement}
 use Rattle.bat.proofs.framing.octet_at.Tie as tie
-use Rattle.bat.proofs.framing.octet_at.Reads as reads
-use Rattle.bat.proofs.framing.octet_at.Lts as lts
 
 shared-slice-read-result : tie.Need-shared-slice-read-result
 shared-slice-read-result c = search needs

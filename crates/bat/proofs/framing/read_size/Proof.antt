@@ -1,10 +1,9 @@
+-- `framing::read_size` meets its contract: each way that the code leaves is one case of `lengthOf`.
+-- Assumes nothing.
 use Rattle.bat.proofs.FrameLaws.{sizes}
 use borrow.Author.Needs.{needs}
 use Rattle.bat.proofs.framing.read_size.Statement.{statement}
 use Rattle.bat.proofs.framing.read_size.Tie as tie
-use Rattle.bat.proofs.framing.read_size.Reads as reads
-use Rattle.bat.proofs.framing.read_size.Lts as lts
-use Rattle.bat.proofs.framing.wide.Reads as wide-reads
 
 returns : tie.Need-returns
 returns c = search (sizes, needs)

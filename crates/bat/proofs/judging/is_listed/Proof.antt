@@ -1,9 +1,9 @@
+-- `judging::is_listed` meets its contract: each outcome has its number, which says whether the diagnostic is listed.
+-- Assumes nothing.
 use Rattle.bat.proofs.JudgeLaws.{listing}
 use borrow.Author.Needs.{needs}
 use Rattle.bat.proofs.judging.is_listed.Statement.{statement}
 use Rattle.bat.proofs.judging.is_listed.Tie as tie
-use Rattle.bat.proofs.judging.is_listed.Reads as reads
-use Rattle.bat.proofs.judging.is_listed.Lts as lts
 
 enum-told : tie.Need-enum-told
 enum-told c = search needs

@@ -1,27 +1,23 @@
+-- `judging::numbered` meets its contract: what is left of four numbers after three tests is the fourth.
+-- Assumes nothing.
 use Rattle.bat.specs.Meaning.{outcomeNumber}
 use Rattle.octets.proofs.Pick.{picks, flags}
 use borrow.Author.Needs.{needs}
 use Rattle.bat.proofs.judging.numbered.Statement.{statement}
 use Rattle.bat.proofs.judging.numbered.Tie as tie
-use Rattle.bat.proofs.judging.numbered.Reads as reads
-use Rattle.bat.proofs.judging.numbered.Lts as lts
 
--- src/judging.rt:16:9
 returns : tie.Need-returns
 unfolding outcomeNumber
 returns c = search (picks, flags, needs)
 
--- src/judging.rt:19:9
 returns-2 : tie.Need-returns-2
 unfolding outcomeNumber
 returns-2 c = search (picks, flags, needs)
 
--- src/judging.rt:22:9
 returns-3 : tie.Need-returns-3
 unfolding outcomeNumber
 returns-3 c = search (picks, flags, needs)
 
--- src/judging.rt:11:1
 returns-4 : tie.Need-returns-4
 unfolding outcomeNumber
 returns-4 c = search (picks, flags, needs)

@@ -1,3 +1,5 @@
+-- `ranges::all_indicators` meets its contract: the octets that are left, from the place on, always decide for all.
+-- Assumes nothing.
 use Prim.Native.Nat.{_-_}
 use mathlib.Core.Path.{_≡_}
 use lib.ListN.{length, drop}
@@ -6,9 +8,6 @@ use Rattle.bat.proofs.RangeLaws.{indicating}
 use borrow.Author.Needs.{needs}
 use Rattle.bat.proofs.ranges.all_indicators.Statement.{statement}
 use Rattle.bat.proofs.ranges.all_indicators.Tie as tie
-use Rattle.bat.proofs.ranges.all_indicators.Reads as reads
-use Rattle.bat.proofs.ranges.all_indicators.Lts as lts
-use Rattle.codes.proofs.is_indicator.Reads as is-indicator-reads
 
 abbrev Inv-loop : tie.InvT-loop
 Inv-loop s i₀ i = allIndicators (drop i s) ≡ allIndicators s

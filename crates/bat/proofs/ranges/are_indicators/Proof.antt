@@ -1,12 +1,10 @@
+-- `ranges::are_indicators` meets its contract: the tests are those of `rightIndicators`.
+-- Assumes nothing.
 use Rattle.octets.proofs.Pick.{picks, flags}
 use Rattle.bat.specs.Values.{rightIndicators}
 use borrow.Author.Needs.{needs}
 use Rattle.bat.proofs.ranges.are_indicators.Statement.{statement}
 use Rattle.bat.proofs.ranges.are_indicators.Tie as tie
-use Rattle.bat.proofs.ranges.are_indicators.Reads as reads
-use Rattle.bat.proofs.ranges.are_indicators.Lts as lts
-use Rattle.bat.proofs.ranges.all_indicators.Reads as all-indicators-reads
-use Rattle.bat.proofs.ranges.between.Reads as between-reads
 
 between-requires : tie.Need-between-requires
 between-requires c κs = search needs

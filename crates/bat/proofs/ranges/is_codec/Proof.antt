@@ -1,11 +1,9 @@
+-- `ranges::is_codec` meets its contract: the first octet and those behind it are the codec of the contents.
+-- Assumes nothing.
 use Rattle.bat.proofs.RangeLaws.{codec-none, codec-some}
 use borrow.Author.Needs.{needs}
 use Rattle.bat.proofs.ranges.is_codec.Statement.{statement}
 use Rattle.bat.proofs.ranges.is_codec.Tie as tie
-use Rattle.bat.proofs.ranges.is_codec.Reads as reads
-use Rattle.bat.proofs.ranges.is_codec.Lts as lts
-use Rattle.bat.proofs.ranges.right_codec.Reads as right-codec-reads
-use Rattle.octets.proofs.spans.after.Reads as after-reads
 
 returns : tie.Need-returns
 returns c = search (codec-none, codec-some, needs)

@@ -1,11 +1,11 @@
+-- `ranges::is_itu_codec` meets its contract: the tests are those of `ituCodec`; nothing at all passes them.
+-- Assumes nothing.
 use Rattle.octets.proofs.Pick.{picks, flags}
 use Rattle.bat.proofs.RangeLaws.{itu-none}
 use Rattle.bat.specs.Values.{ituCodec}
 use borrow.Author.Needs.{needs}
 use Rattle.bat.proofs.ranges.is_itu_codec.Statement.{statement}
 use Rattle.bat.proofs.ranges.is_itu_codec.Tie as tie
-use Rattle.bat.proofs.ranges.is_itu_codec.Reads as reads
-use Rattle.bat.proofs.ranges.is_itu_codec.Lts as lts
 
 returns : tie.Need-returns
 unfolding ituCodec

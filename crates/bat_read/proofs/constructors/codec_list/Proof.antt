@@ -1,11 +1,10 @@
+-- `constructors::codec_list` meets its contract: the first offence, or that there is none, decides the reading.
+-- Assumes nothing.
 use Rattle.octets.proofs.SpanLaws.{text-all}
 use Rattle.bat_read.proofs.ConstructorLaws.{lists}
 use borrow.Author.Needs.{needs}
 use Rattle.bat_read.proofs.constructors.codec_list.Statement.{statement}
 use Rattle.bat_read.proofs.constructors.codec_list.Tie as tie
-use Rattle.bat_read.proofs.constructors.codec_list.Reads as reads
-use Rattle.bat_read.proofs.constructors.codec_list.Lts as lts
-use Rattle.bat_read.proofs.constructors.find_offence.Reads as find-offence-reads
 
 returns : tie.Need-returns
 returns c = search (lists, text-all, needs)

@@ -1,3 +1,5 @@
+-- `constructors::find_offence` meets its contract: the first offence from the place on is always the first of all.
+-- Assumes nothing.
 use Prim.Native.Nat.{_-_}
 use mathlib.Core.Path.{_≡_}
 use lib.ListN.{length}
@@ -8,12 +10,6 @@ use Rattle.bat_read.proofs.ConstructorLaws.{offenceAt, offence-start, o
 use borrow.Author.Needs.{needs}
 use Rattle.bat_read.proofs.constructors.find_offence.Statement.{statement}
 use Rattle.bat_read.proofs.constructors.find_offence.Tie as tie
-use Rattle.bat_read.proofs.constructors.find_offence.Reads as reads
-use Rattle.bat_read.proofs.constructors.find_offence.Lts as lts
-use Rattle.bat.proofs.framing.first_element.Reads as first-element-reads
-use Rattle.bat.proofs.framing.whole_length.Reads as whole-length-reads
-use Rattle.bat_read.proofs.constructors.is_single.Reads as is-single-reads
-use Rattle.octets.proofs.spans.after.Reads as after-reads
 
 abbrev Inv-loop : tie.InvT-loop
 Inv-loop s at₀ at = offenceAt at s ≡ offenceOf (codecsIn s)

@@ -1,10 +1,9 @@
+-- `constructors::is_duration` meets its contract: the identifier is tested first, then the length.
+-- Assumes nothing.
 use Rattle.bat_read.proofs.ConstructorLaws.{inners}
 use borrow.Author.Needs.{needs}
 use Rattle.bat_read.proofs.constructors.is_duration.Statement.{statement}
 use Rattle.bat_read.proofs.constructors.is_duration.Tie as tie
-use Rattle.bat_read.proofs.constructors.is_duration.Reads as reads
-use Rattle.bat_read.proofs.constructors.is_duration.Lts as lts
-use Rattle.bat.proofs.framing.contents.Reads as contents-reads
 
 returns : tie.Need-returns
 returns c = search (inners, needs)

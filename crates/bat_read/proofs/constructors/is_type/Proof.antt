@@ -1,11 +1,9 @@
+-- `constructors::is_type` meets its contract: the identifier is tested first, then the contents.
+-- Assumes nothing.
 use Rattle.bat_read.proofs.ConstructorLaws.{inners}
 use borrow.Author.Needs.{needs}
 use Rattle.bat_read.proofs.constructors.is_type.Statement.{statement}
 use Rattle.bat_read.proofs.constructors.is_type.Tie as tie
-use Rattle.bat_read.proofs.constructors.is_type.Reads as reads
-use Rattle.bat_read.proofs.constructors.is_type.Lts as lts
-use Rattle.bat.proofs.framing.contents.Reads as contents-reads
-use Rattle.bat.proofs.ranges.is_type.Reads as is-type-reads
 
 returns : tie.Need-returns
 returns c = search (inners, needs)

@@ -1,13 +1,9 @@
+-- `constructors::last` meets its contract: each way that the code leaves is one case of `lastBy`.
+-- Assumes nothing.
 use Rattle.bat_read.proofs.ConstructorLaws.{lasts}
 use borrow.Author.Needs.{needs}
 use Rattle.bat_read.proofs.constructors.last.Statement.{statement}
 use Rattle.bat_read.proofs.constructors.last.Tie as tie
-use Rattle.bat_read.proofs.constructors.last.Reads as reads
-use Rattle.bat_read.proofs.constructors.last.Lts as lts
-use Rattle.bat.proofs.framing.contents.Reads as contents-reads
-use Rattle.bat.proofs.framing.whole_length.Reads as whole-length-reads
-use Rattle.bat.proofs.ranges.word.Reads as word-reads
-use Rattle.bat_read.proofs.constructors.is_duration.Reads as is-duration-reads
 
 is-duration-requires : tie.Need-is-duration-requires
 is-duration-requires c κs = search needs

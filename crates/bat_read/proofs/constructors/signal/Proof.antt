@@ -1,11 +1,9 @@
+-- `constructors::signal` meets its contract: each answer of the framing is one case of `signalIn`.
+-- Assumes nothing.
 use Rattle.bat_read.proofs.ConstructorLaws.{signals}
 use borrow.Author.Needs.{needs}
 use Rattle.bat_read.proofs.constructors.signal.Statement.{statement}
 use Rattle.bat_read.proofs.constructors.signal.Tie as tie
-use Rattle.bat_read.proofs.constructors.signal.Reads as reads
-use Rattle.bat_read.proofs.constructors.signal.Lts as lts
-use Rattle.bat.proofs.framing.first_element.Reads as first-element-reads
-use Rattle.bat_read.proofs.constructors.typed.Reads as typed-reads
 
 first-element-requires : tie.Need-first-element-requires
 first-element-requires c κs = search needs

@@ -1,11 +1,9 @@
+-- `constructors::timed` meets its contract: each answer of the framing is one case of `timedBy`.
+-- Assumes nothing.
 use Rattle.bat_read.proofs.ConstructorLaws.{timed-ended, timed-unframed, timed-last}
 use borrow.Author.Needs.{needs}
 use Rattle.bat_read.proofs.constructors.timed.Statement.{statement}
 use Rattle.bat_read.proofs.constructors.timed.Tie as tie
-use Rattle.bat_read.proofs.constructors.timed.Reads as reads
-use Rattle.bat_read.proofs.constructors.timed.Lts as lts
-use Rattle.bat.proofs.framing.first_element.Reads as first-element-reads
-use Rattle.bat_read.proofs.constructors.last.Reads as last-reads
 
 first-element-requires : tie.Need-first-element-requires
 first-element-requires c κs = search needs

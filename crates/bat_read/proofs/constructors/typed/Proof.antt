@@ -1,15 +1,9 @@
+-- `constructors::typed` meets its contract: each way that the code leaves is one case of `signalBy`.
+-- Assumes nothing.
 use Rattle.bat_read.proofs.ConstructorLaws.{typed-no, typed-yes}
 use borrow.Author.Needs.{needs}
 use Rattle.bat_read.proofs.constructors.typed.Statement.{statement}
 use Rattle.bat_read.proofs.constructors.typed.Tie as tie
-use Rattle.bat_read.proofs.constructors.typed.Reads as reads
-use Rattle.bat_read.proofs.constructors.typed.Lts as lts
-use Rattle.bat.proofs.framing.contents.Reads as contents-reads
-use Rattle.bat.proofs.framing.octet_at.Reads as octet-at-reads
-use Rattle.bat.proofs.framing.whole_length.Reads as whole-length-reads
-use Rattle.bat_read.proofs.constructors.is_type.Reads as is-type-reads
-use Rattle.bat_read.proofs.constructors.timed.Reads as timed-reads
-use Rattle.octets.proofs.spans.after.Reads as after-reads
 
 is-type-requires : tie.Need-is-type-requires
 is-type-requires c κs = search needs

@@ -1,3 +1,5 @@
+-- `simple::action` meets its contract: the tests are those of `actionIn`.
+-- Assumes nothing.
 use Rattle.octets.proofs.Pick.{picks, flags}
 use Rattle.bat_read.proofs.SimpleLaws.{some-is}
 use Rattle.bat.specs.Meaning.{valueIn, readingIn}
@@ -5,9 +7,6 @@ use Rattle.bat.specs.Values.{actionIn}
 use borrow.Author.Needs.{needs}
 use Rattle.bat_read.proofs.simple.action.Statement.{statement}
 use Rattle.bat_read.proofs.simple.action.Tie as tie
-use Rattle.bat_read.proofs.simple.action.Reads as reads
-use Rattle.bat_read.proofs.simple.action.Lts as lts
-use Rattle.codes.proofs.is_action.Reads as is-action-reads
 
 returns : tie.Need-returns
 unfolding readingIn valueIn actionIn

@@ -1,3 +1,5 @@
+-- `simple::address` meets its contract: the test is that of `addressIn`, and the span stands for all of the contents.
+-- Assumes nothing.
 use Rattle.octets.proofs.Pick.{picks, flags}
 use Rattle.bat_read.proofs.SimpleLaws.{some-is}
 use Rattle.bat.specs.Meaning.{valueIn, readingIn}
@@ -5,10 +7,6 @@ use Rattle.bat.specs.Values.{addressIn}
 use borrow.Author.Needs.{needs}
 use Rattle.bat_read.proofs.simple.address.Statement.{statement}
 use Rattle.bat_read.proofs.simple.address.Tie as tie
-use Rattle.bat_read.proofs.simple.address.Reads as reads
-use Rattle.bat_read.proofs.simple.address.Lts as lts
-use Rattle.bat.proofs.ranges.between.Reads as between-reads
-use Rattle.bat_read.proofs.simple.all.Reads as all-reads
 
 between-requires : tie.Need-between-requires
 between-requires c κs = search needs

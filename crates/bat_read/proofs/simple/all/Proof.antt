@@ -1,9 +1,9 @@
+-- `simple::all` meets its contract: the span of all of a slice stands for it.
+-- Assumes nothing.
 use Rattle.octets.proofs.SpanLaws.{text-all}
 use borrow.Author.Needs.{needs}
 use Rattle.bat_read.proofs.simple.all.Statement.{statement}
 use Rattle.bat_read.proofs.simple.all.Tie as tie
-use Rattle.bat_read.proofs.simple.all.Reads as reads
-use Rattle.bat_read.proofs.simple.all.Lts as lts
 
 returns : tie.Need-returns
 returns c = search (text-all, needs)

@@ -1,9 +1,9 @@
+-- `simple::behind` meets its contract: what stands behind a number of octets is empty past the end.
+-- Assumes nothing.
 use Rattle.bat_read.proofs.SimpleLaws.{behinds}
 use borrow.Author.Needs.{needs}
 use Rattle.bat_read.proofs.simple.behind.Statement.{statement}
 use Rattle.bat_read.proofs.simple.behind.Tie as tie
-use Rattle.bat_read.proofs.simple.behind.Reads as reads
-use Rattle.bat_read.proofs.simple.behind.Lts as lts
 
 returns : tie.Need-returns
 returns c = search (behinds, needs)

@@ -1,10 +1,9 @@
+-- `simple::capability` meets its contract: the first marked octet is the last where one less than the length stands before it.
+-- Assumes nothing.
 use Rattle.bat_read.proofs.SimpleLaws.{capabilities}
 use borrow.Author.Needs.{needs}
 use Rattle.bat_read.proofs.simple.capability.Statement.{statement}
 use Rattle.bat_read.proofs.simple.capability.Tie as tie
-use Rattle.bat_read.proofs.simple.capability.Reads as reads
-use Rattle.bat_read.proofs.simple.capability.Lts as lts
-use Rattle.bat.proofs.framing.count_unmarked.Reads as count-unmarked-reads
 
 returns : tie.Need-returns
 returns c = search (capabilities, needs)

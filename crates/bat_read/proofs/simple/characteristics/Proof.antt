@@ -1,3 +1,5 @@
+-- `simple::characteristics` meets its contract: the tests are those of `characteristicsIn`.
+-- Assumes nothing.
 use Rattle.octets.proofs.Pick.{picks, flags}
 use Rattle.bat_read.proofs.SimpleLaws.{some-is}
 use Rattle.bat.specs.Meaning.{valueIn, readingIn}
@@ -5,8 +7,6 @@ use Rattle.bat.specs.Values.{characteristicsIn}
 use borrow.Author.Needs.{needs}
 use Rattle.bat_read.proofs.simple.characteristics.Statement.{statement}
 use Rattle.bat_read.proofs.simple.characteristics.Tie as tie
-use Rattle.bat_read.proofs.simple.characteristics.Reads as reads
-use Rattle.bat_read.proofs.simple.characteristics.Lts as lts
 
 returns : tie.Need-returns
 unfolding readingIn valueIn characteristicsIn

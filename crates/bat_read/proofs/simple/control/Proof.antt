@@ -1,3 +1,5 @@
+-- `simple::control` meets its contract: the test is that of `controlIn`, and the span stands for all of the contents.
+-- Assumes nothing.
 use Rattle.octets.proofs.Pick.{picks, flags}
 use Rattle.bat_read.proofs.SimpleLaws.{some-is}
 use Rattle.bat.specs.Meaning.{valueIn, readingIn}
@@ -5,9 +7,6 @@ use Rattle.bat.specs.Values.{controlIn}
 use borrow.Author.Needs.{needs}
 use Rattle.bat_read.proofs.simple.control.Statement.{statement}
 use Rattle.bat_read.proofs.simple.control.Tie as tie
-use Rattle.bat_read.proofs.simple.control.Reads as reads
-use Rattle.bat_read.proofs.simple.control.Lts as lts
-use Rattle.bat_read.proofs.simple.all.Reads as all-reads
 
 all-requires : tie.Need-all-requires
 all-requires c κs = search needs

@@ -1,3 +1,5 @@
+-- `simple::duration` meets its contract: the test is that of `durationIn`.
+-- Assumes nothing.
 use Rattle.octets.proofs.Pick.{picks, flags}
 use Rattle.bat_read.proofs.SimpleLaws.{some-is}
 use Rattle.bat.specs.Meaning.{valueIn, readingIn}
@@ -5,9 +7,6 @@ use Rattle.bat.specs.Values.{durationIn}
 use borrow.Author.Needs.{needs}
 use Rattle.bat_read.proofs.simple.duration.Statement.{statement}
 use Rattle.bat_read.proofs.simple.duration.Tie as tie
-use Rattle.bat_read.proofs.simple.duration.Reads as reads
-use Rattle.bat_read.proofs.simple.duration.Lts as lts
-use Rattle.bat.proofs.ranges.word.Reads as word-reads
 
 returns : tie.Need-returns
 unfolding readingIn valueIn durationIn

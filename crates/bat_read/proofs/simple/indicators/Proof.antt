@@ -1,3 +1,5 @@
+-- `simple::indicators` meets its contract: the test is that of `indicatorsIn`, and the span stands for all of the contents.
+-- Assumes nothing.
 use Rattle.octets.proofs.Pick.{picks, flags}
 use Rattle.bat_read.proofs.SimpleLaws.{some-is}
 use Rattle.bat.specs.Meaning.{valueIn, readingIn}
@@ -5,10 +7,6 @@ use Rattle.bat.specs.Values.{indicatorsIn}
 use borrow.Author.Needs.{needs}
 use Rattle.bat_read.proofs.simple.indicators.Statement.{statement}
 use Rattle.bat_read.proofs.simple.indicators.Tie as tie
-use Rattle.bat_read.proofs.simple.indicators.Reads as reads
-use Rattle.bat_read.proofs.simple.indicators.Lts as lts
-use Rattle.bat.proofs.ranges.are_indicators.Reads as are-indicators-reads
-use Rattle.bat_read.proofs.simple.all.Reads as all-reads
 
 are-indicators-requires : tie.Need-are-indicators-requires
 are-indicators-requires c κs = search needs

@@ -1,10 +1,9 @@
+-- `simple::report` meets its contract: octets are diagnostics exactly where they come in threes.
+-- Assumes nothing.
 use Rattle.bat_read.proofs.SimpleLaws.{reports}
 use borrow.Author.Needs.{needs}
 use Rattle.bat_read.proofs.simple.report.Statement.{statement}
 use Rattle.bat_read.proofs.simple.report.Tie as tie
-use Rattle.bat_read.proofs.simple.report.Reads as reads
-use Rattle.bat_read.proofs.simple.report.Lts as lts
-use Rattle.bat_read.proofs.simple.behind.Reads as behind-reads
 
 returns : tie.Need-returns
 returns c = search (reports, needs)

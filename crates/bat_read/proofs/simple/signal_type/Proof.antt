@@ -1,3 +1,5 @@
+-- `simple::signal_type` meets its contract: the test is that of `typeIn`.
+-- Assumes nothing.
 use Rattle.octets.proofs.Pick.{picks, flags}
 use Rattle.bat_read.proofs.SimpleLaws.{some-is}
 use Rattle.bat.specs.Meaning.{valueIn, readingIn}
@@ -5,10 +7,6 @@ use Rattle.bat.specs.Values.{typeIn}
 use borrow.Author.Needs.{needs}
 use Rattle.bat_read.proofs.simple.signal_type.Statement.{statement}
 use Rattle.bat_read.proofs.simple.signal_type.Tie as tie
-use Rattle.bat_read.proofs.simple.signal_type.Reads as reads
-use Rattle.bat_read.proofs.simple.signal_type.Lts as lts
-use Rattle.bat.proofs.framing.octet_at.Reads as octet-at-reads
-use Rattle.bat.proofs.ranges.is_type.Reads as is-type-reads
 
 is-type-requires : tie.Need-is-type-requires
 is-type-requires c κs = search needs

@@ -1,3 +1,5 @@
+-- `simple::single` meets its contract: the test is that of `singleIn`, and the span stands for what is behind the organisation.
+-- Assumes nothing.
 use Rattle.octets.proofs.Pick.{picks, flags}
 use Rattle.bat_read.proofs.SimpleLaws.{some-is}
 use Rattle.bat.specs.Meaning.{valueIn, readingIn}
@@ -5,11 +7,6 @@ use Rattle.bat.specs.Values.{singleIn}
 use borrow.Author.Needs.{needs}
 use Rattle.bat_read.proofs.simple.single.Statement.{statement}
 use Rattle.bat_read.proofs.simple.single.Tie as tie
-use Rattle.bat_read.proofs.simple.single.Reads as reads
-use Rattle.bat_read.proofs.simple.single.Lts as lts
-use Rattle.bat.proofs.framing.octet_at.Reads as octet-at-reads
-use Rattle.bat.proofs.ranges.is_codec.Reads as is-codec-reads
-use Rattle.bat_read.proofs.simple.behind.Reads as behind-reads
 
 is-codec-requires : tie.Need-is-codec-requires
 is-codec-requires c κs = search needs

@@ -1,3 +1,5 @@
+-- `simple::tunnelling` meets its contract: the test is that of `tunnellingIn`.
+-- Assumes nothing.
 use Rattle.octets.proofs.Pick.{picks, flags}
 use Rattle.bat_read.proofs.SimpleLaws.{some-is}
 use Rattle.bat.specs.Meaning.{valueIn, readingIn}
@@ -5,8 +7,6 @@ use Rattle.bat.specs.Values.{tunnellingIn}
 use borrow.Author.Needs.{needs}
 use Rattle.bat_read.proofs.simple.tunnelling.Statement.{statement}
 use Rattle.bat_read.proofs.simple.tunnelling.Tie as tie
-use Rattle.bat_read.proofs.simple.tunnelling.Reads as reads
-use Rattle.bat_read.proofs.simple.tunnelling.Lts as lts
 
 returns : tie.Need-returns
 unfolding readingIn valueIn tunnellingIn

@@ -1,11 +1,9 @@
+-- `simple::unit` meets its contract: the tests are those of `unitIn`, and the two spans stand for the two ids.
+-- Assumes nothing.
 use Rattle.bat_read.proofs.SimpleLaws.{units}
 use borrow.Author.Needs.{needs}
 use Rattle.bat_read.proofs.simple.unit.Statement.{statement}
 use Rattle.bat_read.proofs.simple.unit.Tie as tie
-use Rattle.bat_read.proofs.simple.unit.Reads as reads
-use Rattle.bat_read.proofs.simple.unit.Lts as lts
-use Rattle.bat.proofs.framing.octet_at.Reads as octet-at-reads
-use Rattle.bat_read.proofs.simple.behind.Reads as behind-reads
 
 returns : tie.Need-returns
 returns c = search (units, needs)
