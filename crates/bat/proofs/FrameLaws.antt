@@ -1,11 +1,11 @@
 -- The cases of a length and of an element at the front of octets, each as the function that reads it answers it.
 -- Assumes nothing.
-use Prim.Native.Nat.{ℕ, zero, suc, _+_, _-_, _*_, _%_, _≤_, _<_}
+use Prim.Native.Nat.{ℕ, suc, _+_, _-_, _*_, _%_, _≤_, _<_}
 use mathlib.Core.Path.{_≡_, refl, sym, ap, _∙_}
-use mathlib.Core.List.{List, [], _∷_, _++_}
-use mathlib.Core.Option.{Option, none, some}
+use mathlib.Core.List.{List, [], _∷_}
+use mathlib.Core.Option.{none, some}
 use lib.ListN.{length, getD, take, drop, length-drop, drop-of-length-le, List·getD-eq-default}
-use lib.Seq.{drop-drop, take-take, length-take-le, getD-take}
+use lib.Seq.{drop-drop, take-take, length-take-le}
 use native.Mathlib.Omega.{arith}
 use native.Mathlib.Numerals.{add-one}
 use borrow.Author.Tests.{le-leb, lt-leb, lt-ltb, le-ltb, eq-eqb, ne-eqb}
@@ -15,7 +15,6 @@ use Rattle.octets.proofs.Laws.{next, drop-take}
 use Rattle.bat.specs.declared.Size.{Size}
 use Rattle.bat.specs.declared.Size.the-variants.{Of, Missing}
 use Rattle.bat.specs.declared.Frame.{Frame}
-use Rattle.bat.specs.declared.Framed.{Framed}
 use Rattle.bat.specs.declared.Framed.the-variants.{Whole, Unframed, Ended}
 use Rattle.bat.specs.Framing.{octet, Length, sized, unsized, lengthOf, unmarked, countedBy, elementBy, sizedBy, front}
 use Rattle.bat.specs.Meaning.{sizeIn, elementIn, frontIn, HeadLength}

@@ -1,8 +1,7 @@
 -- A diagnostic is listed by the outcome's number.
 -- Assumes nothing.
 use mathlib.Core.Path.{_≡_}
-use mathlib.Core.Bool.{Bool, true, false}
-use Rattle.bat.specs.declared.Outcome.{Outcome}
+use mathlib.Core.Bool.{false}
 use Rattle.bat.specs.declared.Outcome.the-variants.{PassOn, DiscardElement, DiscardData, Release}
 use Rattle.bat.specs.declared.Judged.{Judged}
 use Rattle.bat.specs.Judging.{isListed}

@@ -4,15 +4,15 @@
 use Prim.Native.Nat.{ℕ, suc, _+_, _/_, _%_}
 use mathlib.Core.Path.{_≡_}
 use mathlib.Core.List.{List, [], _∷_, _++_}
-use mathlib.Core.Bool.{Bool, true, false, _&&_, cond}
-use mathlib.Core.Option.{Option, none, some, Option·elim}
+use mathlib.Core.Bool.{Bool, true, _&&_, cond}
+use mathlib.Core.Option.{Option, none, some}
 use lib.ListN.{length, drop}
-use lib.Dec.{leb, ltb, eqb}
+use lib.Dec.{leb, ltb}
 use Rattle.codes.specs.Codes.{isAction, isSignal}
 use Rattle.bat.specs.declared.Put.{Put}
 use Rattle.bat.specs.declared.Put.the-variants.{Octets, Refused as RefusedPut}
 use Rattle.bat.specs.Framing.{mostOctets}
-use Rattle.bat.specs.Values.{Diagnostic, Codec, ListedCodec, Kind, Lasting, untimed, lasting, Value, action, backbone, address, codecs, single, report, characteristics, control, tunnelling, controlUnit, signal, capability, indicators, signalType, duration, rightCodec, rightIndicators}
+use Rattle.bat.specs.Values.{Diagnostic, Codec, ListedCodec, Lasting, untimed, lasting, Value, action, backbone, address, codecs, single, report, characteristics, control, tunnelling, controlUnit, signal, capability, indicators, signalType, duration, rightCodec, rightIndicators}
 
 -- ---- an element's octets
 -- the shortest form of a length

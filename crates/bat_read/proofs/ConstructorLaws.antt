@@ -1,10 +1,10 @@
 -- The contents of constructors, inner element by inner element as the functions that read them go through them.
 -- Assumes nothing.
-use Prim.Native.Nat.{ℕ, suc, _+_, _-_, _^_, _≤_, _<_}
-use mathlib.Core.Path.{_≡_, refl, sym, ap, _∙_}
-use mathlib.Core.List.{List, [], _∷_}
-use mathlib.Core.Bool.{Bool, true, false, _&&_, cond}
-use mathlib.Core.Option.{Option, none, some, Option·map}
+use Prim.Native.Nat.{ℕ, _+_, _≤_, _<_}
+use mathlib.Core.Path.{_≡_, refl, sym, _∙_}
+use mathlib.Core.List.{List, []}
+use mathlib.Core.Bool.{Bool, true, false, _&&_}
+use mathlib.Core.Option.{none, some, Option·map}
 use lib.ListN.{length, drop, length-drop, drop-of-length-le}
 use lib.Seq.{drop-drop}
 use lib.Dec.{eqb}
@@ -21,11 +21,11 @@ use Rattle.bat.specs.declared.Value.the-variants.{Codecs as CodecsPlace, Signal
 use Rattle.bat.specs.declared.Place.the-variants.{Itself, Inner}
 use Rattle.bat.specs.declared.Reading.{Reading as ReadingPlace}
 use Rattle.bat.specs.declared.Reading.the-variants.{Decoded, Unrecognised}
-use Rattle.bat.specs.Framing.{octet, Element, whole, front, first, unframed, ended, onFront, walk}
-use Rattle.bat.specs.Values.{ListedCodec, codecs, signal, lasting, meant, decoded, unrecognised, Codecs, allCodecs, offence, withCodec, onCodecs, rightCodec, codecOf, isSingle, listedCodec, codecThen, codecsIn, codecListIn, Kind, kindOf, lastingOf, durationOf, rightType, isType, isDuration, lastBy, timedBy, signalBy, signalIn}
+use Rattle.bat.specs.Framing.{octet, whole, front, onFront, walk}
+use Rattle.bat.specs.Values.{ListedCodec, codecs, signal, lasting, meant, decoded, unrecognised, Codecs, allCodecs, offence, withCodec, onCodecs, rightCodec, codecOf, isSingle, listedCodec, codecThen, codecsIn, codecListIn, kindOf, lastingOf, durationOf, rightType, isType, isDuration, lastBy, timedBy, signalBy, signalIn}
 use Rattle.bat.specs.Meaning.{wholeOf, elementIn, frontIn, WholeLength, kindIn, lastingIn, valueIn, readingIn}
 use Rattle.bat.proofs.WalkLaws.{front-nil, walk-ended, walk-unframed, walk-first}
-use Rattle.bat.proofs.CountLaws.{frame-ended, frame-unframed, frame-is, frame-first, frame-length, frame-inside}
+use Rattle.bat.proofs.CountLaws.{frame-ended, frame-unframed, frame-is, frame-first, frame-length}
 use Rattle.bat_read.specs.declared.Offence.{Offence}
 use Rattle.bat_read.specs.declared.Offence.the-variants.{At, Nowhere}
 use Rattle.bat_read.specs.Examining.{offenceOf}

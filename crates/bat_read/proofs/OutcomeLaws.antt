@@ -1,13 +1,12 @@
 -- The data's outcome is the gravest that its elements ask, taken from one element to the next.
 -- Assumes nothing.
-use Prim.Native.Nat.{ℕ, suc, _+_, _-_, _^_, _≤_, _<_, max}
-use mathlib.Core.Path.{_≡_, refl, sym, ap, _∙_}
+use Prim.Native.Nat.{ℕ, _+_, _-_, _^_, _≤_, _<_, max}
+use mathlib.Core.Path.{_≡_, refl, sym, _∙_}
 use mathlib.Core.List.{List, [], _∷_, map}
 use mathlib.Core.Bool.{Bool, true, false, _||_, cond}
 use mathlib.Core.Option.{Option, none, some, Option·map, Option·elim}
-use lib.ListN.{length, drop, length-drop, length-map, drop-of-length-le}
+use lib.ListN.{length, drop, length-map, drop-of-length-le}
 use lib.Seq.{drop-drop}
-use lib.Dec.{leb, ltb, eqb}
 use mir.Syntax.{w64}
 use mir.Val.{Fits}
 use native.Mathlib.Omega.{arith}
@@ -17,7 +16,6 @@ use Rattle.bat.specs.declared.Frame.{Frame}
 use Rattle.bat.specs.declared.Framed.the-variants.{Whole}
 use Rattle.bat.specs.declared.Counted.{Counted}
 use Rattle.bat.specs.declared.Counted.the-variants.{Elements, Refused}
-use Rattle.bat.specs.declared.Outcome.{Outcome}
 use Rattle.bat.specs.declared.Outcome.the-variants.{PassOn, DiscardElement, DiscardData, Release}
 use Rattle.bat.specs.declared.Judged.{Judged}
 use Rattle.bat.specs.declared.Value.{Value as ValuePlace}
@@ -26,16 +24,16 @@ use Rattle.bat.specs.declared.Verdict.the-variants.{Recognised, Unknown}
 use Rattle.bat.specs.declared.DataOutcome.{DataOutcome}
 use Rattle.bat.specs.declared.DataOutcome.the-variants.{Neither, DiscardAll, ReleaseAll}
 use Rattle.bat.specs.declared.DataAnswer.the-variants.{Refused as RefusedData, Taken}
-use Rattle.bat.specs.Framing.{Element, whole, Front, front, first, unframed, ended, onFront, elements, Cut, refused, taken, mostOctets, roomFor, cut}
+use Rattle.bat.specs.Framing.{Element, Front, front, first, unframed, ended, onFront, elements, Cut, refused, taken, mostOctets, roomFor, cut}
 use Rattle.bat.specs.Values.{Value}
-use Rattle.bat.specs.Judging.{Judgement, Verdict, known, unknown, verdict, says, someSays, dataOutcome, turned, judged, judgedBy, judgedData}
+use Rattle.bat.specs.Judging.{Verdict, known, unknown, verdict, says, someSays, dataOutcome, judgedBy, judgedData}
 use Rattle.bat.specs.Meaning.{wholeOf, elementIn, frontIn, WholeLength, valueIn, outcomeNumber, judgementIn, verdictIn, dataNumber, toldBy, toldOf, countOf}
 use Rattle.bat.proofs.WalkLaws.{front-nil, fold-ended, fold-unframed, fold-first, by-front}
 use Rattle.bat.proofs.DataLaws.{elements-ended, elements-unframed, elements-first}
 use Rattle.bat.proofs.CountLaws.{place-fits, place-falls}
 use Rattle.bat_read.specs.declared.Examined.{Examined}
 use Rattle.bat_read.specs.declared.Examined.the-variants.{Element as ElementAt, Unframed as NoFrame, Ended as NoMore}
-use Rattle.bat_read.specs.Examining.{Examination, element, noFrame, noMore, examine, examinedIn, asked, askedIn, askedBy, gravest}
+use Rattle.bat_read.specs.Examining.{element, noFrame, noMore, examine, examinedIn, asked, askedIn, askedBy, gravest}
 
 -- ---- what one element asks
 pub asks-known : (v : VerdictPlace) (w : ValuePlace) → v ≡ Recognised w → dataNumber Neither ≡ askedIn v

@@ -1,13 +1,11 @@
 -- What is made of an element follows from how its contents are read, and what is made of the data from its elements.
 -- Assumes nothing.
-use Prim.Native.Nat.{ℕ, suc, _+_, _-_, _^_, _≤_, _<_, max}
+use Prim.Native.Nat.{ℕ, _+_, _≤_}
 use mathlib.Core.Path.{_≡_, refl, sym, ap, _∙_}
-use mathlib.Core.List.{List, [], _∷_, map}
-use mathlib.Core.Bool.{Bool, true, false, _||_, cond}
-use mathlib.Core.Option.{Option, none, some, Option·map, Option·elim}
-use lib.ListN.{length, take, drop, length-append, length-take, length-drop, length-map, drop-of-length-le}
-use lib.Seq.{drop-drop}
-use lib.Dec.{leb, ltb, eqb}
+use mathlib.Core.List.{List}
+use mathlib.Core.Bool.{Bool}
+use mathlib.Core.Option.{Option, none, some, Option·map}
+use lib.ListN.{length, drop, length-append, length-take, length-drop}
 use mir.Syntax.{w64}
 use mir.Val.{Fits}
 use native.Mathlib.Omega.{arith}
@@ -23,15 +21,14 @@ use Rattle.bat.specs.declared.Reading.the-variants.{Decoded, Unrecognised}
 use Rattle.bat.specs.declared.Judged.{Judged}
 use Rattle.bat.specs.declared.Verdict.{Verdict as VerdictPlace}
 use Rattle.bat.specs.declared.Verdict.the-variants.{Recognised, Unknown}
-use Rattle.bat.specs.Framing.{Element, head, whole, Front, front, first, unframed, ended, onFront}
+use Rattle.bat.specs.Framing.{head, front, first, onFront}
 use Rattle.bat.specs.Values.{Value, Reading, decoded, unrecognised, reading}
-use Rattle.bat.specs.Judging.{indexBy, judgement, Verdict, known, unknown, verdictBy, verdict}
+use Rattle.bat.specs.Judging.{indexBy, judgement, known, unknown, verdictBy, verdict}
 use Rattle.bat.specs.Meaning.{headOf, wholeOf, elementIn, frontIn, HeadLength, valueIn, readingIn, judgementIn, verdictIn}
 use Rattle.bat.proofs.WalkLaws.{front-size, size-small}
 use Rattle.bat.proofs.CountLaws.{frame-is, frame-fits, frame-ended, frame-unframed}
-use Rattle.bat_read.specs.declared.Examined.{Examined}
 use Rattle.bat_read.specs.declared.Examined.the-variants.{Element as ElementAt, Unframed as NoFrame, Ended as NoMore}
-use Rattle.bat_read.specs.Examining.{examine, element, examinedIn, noFrame, noMore, indexIn}
+use Rattle.bat_read.specs.Examining.{examine, examinedIn, indexIn}
 use Rattle.bat_read.proofs.InnerLaws.{innerOf, inner-inside}
 
 -- ---- the index

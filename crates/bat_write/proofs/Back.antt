@@ -1,6 +1,6 @@
 -- What `write_element` answers to have written is read back from the buffer as the value that was given: the octets are those of its element, which are read so whatever stands behind them.
 -- Assumes nothing.
-use Prim.Native.Nat.{ℕ, _+_}
+use Prim.Native.Nat.{ℕ}
 use mathlib.Core.Path.{_≡_, refl, sym, ap, _∙_}
 use mathlib.Core.List.{List, _++_}
 use mathlib.Core.Bool.{true, _&&_}

@@ -2,7 +2,6 @@
 -- Assumes nothing.
 use Rattle.bat.specs.Meaning.{judgementIn}
 use Rattle.bat.specs.Judging.{judgement}
-use Rattle.octets.proofs.Pick.{picks, flags}
 use borrow.Author.Needs.{needs}
 use Rattle.bat.proofs.judging.judge.Statement.{statement}
 use Rattle.bat.proofs.judging.judge.Tie as tie
