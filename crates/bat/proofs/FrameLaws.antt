@@ -11,6 +11,7 @@ use native.Mathlib.Numerals.{add-one}
 use borrow.Author.Tests.{le-leb, lt-leb, lt-ltb, le-ltb, eq-eqb, ne-eqb}
 use Rattle.octets.specs.Spans.{textOf}
 use Rattle.octets.proofs.CaseLaws.{by-le}
+use Rattle.octets.proofs.Pick.{some-is}
 use Rattle.octets.proofs.Laws.{next, drop-take}
 use Rattle.bat.specs.declared.Size.{Size}
 use Rattle.bat.specs.declared.Size.the-variants.{Of, Missing}
@@ -18,9 +19,6 @@ use Rattle.bat.specs.declared.Frame.{Frame}
 use Rattle.bat.specs.declared.Framed.the-variants.{Whole, Unframed, Ended}
 use Rattle.bat.specs.Framing.{octet, Length, sized, unsized, lengthOf, unmarked, countedBy, elementBy, sizedBy, front}
 use Rattle.bat.specs.Meaning.{sizeIn, elementIn, frontIn, HeadLength}
-
-some-is : {A : Type 0} {x y : A} → x ≡ y → some x ≡ some y
-some-is e = rw e
 
 -- ---- octets
 pub octet-none : (s : List ℕ) (k : ℕ) → length s ≤ k → 0 ≡ octet k s
@@ -109,7 +107,7 @@ module _ (s : List ℕ) (one : 1 ≤ length s) (t : List ℕ) (is : t ≡ drop 1
 
   pub front-unsized : y ≡ Missing → frontIn s Unframed ≡ some (front s)
   unfolding frontIn sizedBy
-  front-unsized e = some-is (sym (here ∙ rw (size-missing t (lengthOf t) (rw e at size))))
+  front-unsized e = some-is _ _ (sym (here ∙ rw (size-missing t (lengthOf t) (rw e at size))))
 
   module _ (n k : ℕ) (e : y ≡ Of n k) where
     told : (k ≤ length t) × (lengthOf t ≡ sized (take k t) n (drop k t))
@@ -121,12 +119,12 @@ module _ (s : List ℕ) (one : 1 ≤ length s) (t : List ℕ) (is : t ≡ drop 1
 
     pub front-empty : n ≡ 0 → frontIn s Unframed ≡ some (front s)
     unfolding frontIn elementBy
-    front-empty z = some-is (sym (front-by ∙ simp (eq-eqb n 0 z)))
+    front-empty z = some-is _ _ (sym (front-by ∙ simp (eq-eqb n 0 z)))
 
     module _ (full : n ≡ 0 → ⊥) (u : List ℕ) (behind : u ≡ drop k t) where
       pub front-past : length u < n → frontIn s Unframed ≡ some (front s)
       unfolding frontIn elementBy
-      front-past h = some-is (sym (front-by ∙ rw (← behind) (simp (ne-eqb n 0 full, lt-ltb (length u) n h))))
+      front-past h = some-is _ _ (sym (front-by ∙ rw (← behind) (simp (ne-eqb n 0 full, lt-ltb (length u) n h))))
 
       module _ (fits : n ≤ length u) (c : List ℕ) (counts : c ≡ take n u) (x : ℕ) (mark : x ≡ unmarked c) where
         counted : front s ≡ countedBy (getD s 0 0) (take k t) c (drop n u)
@@ -138,7 +136,7 @@ module _ (s : List ℕ) (one : 1 ≤ length s) (t : List ℕ) (is : t ≡ drop 1
 
         pub front-endless : n ≤ x → frontIn s Unframed ≡ some (front s)
         unfolding frontIn countedBy
-        front-endless h = some-is (sym (counted ∙ simp (le-ltb (unmarked c) (length c) (omega (arith, size-c)))))
+        front-endless h = some-is _ _ (sym (counted ∙ simp (le-ltb (unmarked c) (length c) (omega (arith, size-c)))))
 
         behind-head : (j : ℕ) → drop (2 + k + j) s ≡ drop (1 + j) u
         behind-head j =
@@ -161,7 +159,7 @@ module _ (s : List ℕ) (one : 1 ≤ length s) (t : List ℕ) (is : t ≡ drop 1
             rw (behind-head x, counts, p, ← add-one x, drop-take (x + 1) n u) (let q : 1 + x ≡ x + 1 = omega arith in rw q) in
             let in-s : 2 + k + x + (n - 1 - x) ≤ length s = omega (arith, told .0, ap (λ (l : List ℕ). length l) is, length-drop 1 s, ap (λ (l : List ℕ). length l) behind, length-drop k t) in
             rw (le-leb (2 + k + x + (n - 1 - x)) (length s) in-s)
-            (some-is (sym (counted ∙ rw (← mark) (rw (lt-ltb x (length c) (omega (arith, size-c))) (rw (rest, size-is, extension-is, contents-is, o) refl)))))
+            (some-is _ _ (sym (counted ∙ rw (← mark) (rw (lt-ltb x (length c) (omega (arith, size-c))) (rw (rest, size-is, extension-is, contents-is, o) refl)))))
 
 -- ---- the contents
 pub text-contents : (s : List ℕ) (f : Frame) (at : ℕ) (r : List ℕ) → HeadLength f at → r ≡ textOf s (record { at = at; len = f .length }) → r ≡ elementIn s f .contents

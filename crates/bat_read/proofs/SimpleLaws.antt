@@ -17,9 +17,6 @@ use Rattle.bat.specs.Framing.{octet, unmarked}
 use Rattle.bat.specs.Values.{Diagnostic, report, decoded, wrong, bit1, diagnosticsIn, reportIn, unitIn, capabilityIn}
 use Rattle.bat.specs.Meaning.{valueIn, readingIn}
 
-pub some-is : {A : Type 0} (x y : A) → x ≡ y → some x ≡ some y
-some-is x y e = rw e
-
 -- ---- what stands behind n octets
 module _ (s : List ℕ) (n : ℕ) where
   pub behind-none : length s < n → textOf s (record { at = 0; len = 0 }) ≡ drop n s

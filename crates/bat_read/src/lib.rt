@@ -32,7 +32,7 @@ pub enum Examined {
     Ended,
 }
 
-// A diagnostic that is listed, and the place behind its element.
+// A diagnostic that is listed, and a place in the data from which those behind it are found.
 pub enum Listed {
     Next(Diagnostic, usize),
     NoneLeft,

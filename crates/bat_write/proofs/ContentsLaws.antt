@@ -13,7 +13,7 @@ use borrow.Author.Tests.{leb-true}
 use Rattle.octets.specs.declared.Span.{Span}
 use Rattle.octets.specs.Spans.{textOf}
 use Rattle.octets.specs.Append.{Appends}
-use Rattle.octets.proofs.AppendLaws.{append-nil, append-then}
+use Rattle.octets.proofs.AppendLaws.{append-nil, append-then, octet-then}
 use Rattle.bat.specs.declared.Typed.{Typed}
 use Rattle.bat.specs.declared.Timed.{Timed}
 use Rattle.bat.specs.declared.Timed.the-variants.{Untimed, Lasting as LastingFor}
@@ -24,13 +24,12 @@ use Rattle.bat.specs.Writing.{elementText, wordText, lastingText, bitText, cont
 use Rattle.bat.specs.Meaning.{kindIn, lastingIn, valueIn}
 use Rattle.bat.proofs.RoundTrip.{and-both}
 use Rattle.bat_write.specs.Texts.{codecsOf, reportOf, inRangeIn, contentsIn, codecsAnew}
-use Rattle.bat_write.proofs.ElementLaws.{octet-then}
 use Rattle.bat_write.proofs.CodecLaws.{codecs-text}
 
 module _ (l f : List ℕ) (at r : ℕ) where
   -- one octet, and a text that is known by another name
   pub octet-text : (g t u : List ℕ) (k b : ℕ) → Appends g k t r f → t ≡ u → Appends l at (b ∷ []) k g → Appends l at (b ∷ u) r f
-  octet-text g t u k b q e p = rw e at (octet-then l f at r g k b t q p)
+  octet-text g t u k b q e p = rw e at (octet-then l f g at k r b t q p)
 
   pub lasting-none : (d : Timed) → d ≡ Untimed → Appends l at (lastingText (lastingIn d)) at l
   unfolding lastingText lastingIn

@@ -14,7 +14,7 @@ use Rattle.octets.specs.Append.{Appends}
 use Rattle.bat.specs.Values.{Diagnostic, report, diagnosticsIn}
 use Rattle.bat.specs.Writing.{diagnosticsText, contentsText, inRange}
 use Rattle.bat_write.specs.Texts.{reportOf, inRangeIn, contentsIn}
-use Rattle.bat_write.proofs.ElementLaws.{octet-then}
+use Rattle.octets.proofs.AppendLaws.{octet-then}
 
 diagnostics-with : (i a b : ℕ) (s : List ℕ) (o : Option (List Diagnostic)) (ds : List Diagnostic) → Fits w8 b → ((es : List Diagnostic) → o ≡ some es → diagnosticsText es ≡ s)
     → Option·map (λ (r : List Diagnostic). record { identifier = i; index = a * 256 + b } ∷ r) o ≡ some ds → diagnosticsText ds ≡ i ∷ a ∷ b ∷ s
@@ -44,7 +44,7 @@ report-text r s (some ds) ih p = rw (ih ds refl)
 pub report-then : (l f : List ℕ) (at r : ℕ) (g : List ℕ) (k b : ℕ) (s : List ℕ) → ((i : ℕ) → Fits w8 (getD s i 0)) → inRangeIn (reportOf b s) ≡ true → Appends g k s r f → Appends l at (b ∷ []) k g
     → Appends l at (contentsIn (reportOf b s)) r f
 report-then l f at r g k b s h i q p =
-    rw (report-text b s (diagnosticsIn s) (λ ds. diagnostics-again s ds h) i) at (octet-then l f at r g k b s q p)
+    rw (report-text b s (diagnosticsIn s) (λ ds. diagnostics-again s ds h) i) at (octet-then l f g at k r b s q p)
 
 -- three octets more are one diagnostic more
 report-more : (r : ℕ) (f : List Diagnostic → List Diagnostic) (o : Option (List Diagnostic)) → inRangeIn (Option·map (report r) o) ≡ inRangeIn (Option·map (report r) (Option·map f o))

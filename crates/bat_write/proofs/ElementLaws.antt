@@ -23,10 +23,6 @@ module _ (l f : List ℕ) (at r : ℕ) where
     unfolding sizeText
     size-two n q p h = rw (le-ltb n 128 h) (append-then l g f (n % 128 ∷ []) ((128 + n / 128) ∷ []) at k r q p)
 
-    -- one octet, and a text
-    pub octet-then : (b : ℕ) (s : List ℕ) → Appends g k s r f → Appends l at (b ∷ []) k g → Appends l at (b ∷ s) r f
-    octet-then b s q p = append-then l g f (b ∷ []) s at k r q p
-
     pub element-then : (i c : ℕ) (s : List ℕ) → Appends g k ((128 + c) ∷ s) r f → Appends l at (i ∷ sizeText (length s + 1)) k g → Appends l at (elementText i c s) r f
     unfolding elementText
     element-then i c s q p =

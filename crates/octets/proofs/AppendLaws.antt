@@ -181,3 +181,7 @@ module _ (l : List ℕ) (at b : ℕ) where
   octet-no h =
       let q : length l - at ≡ 0 = omega arith in
       record { next = omega arith; leaves = rw q (sym (put-nil l at)) }
+
+-- one octet, and a text
+pub octet-then : (l f g : List ℕ) (at k r b : ℕ) (s : List ℕ) → Appends g k s r f → Appends l at (b ∷ []) k g → Appends l at (b ∷ s) r f
+octet-then l f g at k r b s q p = append-then l g f (b ∷ []) s at k r q p

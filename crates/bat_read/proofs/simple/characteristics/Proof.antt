@@ -1,7 +1,6 @@
 -- `simple::characteristics` meets its contract: the tests are those of `characteristicsIn`.
 -- Assumes nothing.
-use Rattle.octets.proofs.Pick.{picks, flags}
-use Rattle.bat_read.proofs.SimpleLaws.{some-is}
+use Rattle.octets.proofs.Pick.{picks, flags, some-is}
 use Rattle.bat.specs.Meaning.{valueIn, readingIn}
 use Rattle.bat.specs.Values.{characteristicsIn}
 use borrow.Author.Needs.{needs}

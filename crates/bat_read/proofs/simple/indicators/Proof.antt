@@ -1,7 +1,6 @@
 -- `simple::indicators` meets its contract: the test is that of `indicatorsIn`, and the span stands for all of the contents.
 -- Assumes nothing.
-use Rattle.octets.proofs.Pick.{picks, flags}
-use Rattle.bat_read.proofs.SimpleLaws.{some-is}
+use Rattle.octets.proofs.Pick.{picks, flags, some-is}
 use Rattle.bat.specs.Meaning.{valueIn, readingIn}
 use Rattle.bat.specs.Values.{indicatorsIn}
 use borrow.Author.Needs.{needs}

@@ -1,7 +1,7 @@
 -- The proof of `contents::push_unit`. Both ids are appended behind the length.
 -- Assumes nothing.
 use borrow.Author.Needs.{needs}
-use Rattle.bat_write.proofs.ElementLaws.{octet-then}
+use Rattle.octets.proofs.AppendLaws.{octet-then}
 use Rattle.bat_write.proofs.contents.push_unit.Statement.{statement}
 use Rattle.bat_write.proofs.contents.push_unit.Tie as tie
 

@@ -1,7 +1,7 @@
 -- The proof of `contents::push_word`. The low eight bits are appended behind the high ones.
 -- Assumes nothing.
 use borrow.Author.Needs.{needs}
-use Rattle.bat_write.proofs.ElementLaws.{octet-then}
+use Rattle.octets.proofs.AppendLaws.{octet-then}
 use Rattle.bat_write.proofs.contents.push_word.Statement.{statement}
 use Rattle.bat_write.proofs.contents.push_word.Tie as tie
 

@@ -1,7 +1,7 @@
 -- The proof of `element::push_counted`. The contents are appended behind the compatibility octet.
 -- Assumes nothing.
 use borrow.Author.Needs.{needs}
-use Rattle.bat_write.proofs.ElementLaws.{octet-then}
+use Rattle.octets.proofs.AppendLaws.{octet-then}
 use Rattle.bat_write.proofs.element.push_counted.Statement.{statement}
 use Rattle.bat_write.proofs.element.push_counted.Tie as tie
 

@@ -1,7 +1,7 @@
 -- The proof of `element::push_head`. The length is appended behind the identifier.
 -- Assumes nothing.
 use borrow.Author.Needs.{needs}
-use Rattle.bat_write.proofs.ElementLaws.{octet-then}
+use Rattle.octets.proofs.AppendLaws.{octet-then}
 use Rattle.bat_write.proofs.element.push_head.Statement.{statement}
 use Rattle.bat_write.proofs.element.push_head.Tie as tie
 
