@@ -2,10 +2,11 @@
 use Prim.Native.Nat.{ℕ, _+_, _≤_}
 use mathlib.Core.Path.{_≡_}
 use mathlib.Core.List.{List}
-use mathlib.Core.Bool.{cond}
+use mathlib.Core.Bool.{Bool, true, _&&_, cond}
 use mathlib.Core.Option.{Option, none, some, Option·map}
 use lib.ListN.{length, take, drop}
 use lib.Dec.{leb}
+use Rattle.octets.specs.declared.Span.{Span}
 use Rattle.octets.specs.Spans.{textOf}
 use Rattle.bat.specs.declared.Size.{Size}
 use Rattle.bat.specs.declared.Size.the-variants.{Of, Missing}
@@ -96,7 +97,8 @@ unfoldable pub lastingIn : Timed → Lasting
 lastingIn Untimed = untimed
 lastingIn (LastingFor c n) = lasting (meant c) n
 
--- None where a span that should stand for codecs or diagnostics does not.
+-- What a value stands for: a span, the octets of s that are in it. Nothing where a span that should stand for
+-- codecs or diagnostics does not.
 unfoldable pub valueIn : List ℕ → ValuePlace → Option Value
 valueIn s (Action n) = some (action n)
 valueIn s (Backbone p) = some (backbone (textOf s p))
@@ -114,8 +116,33 @@ valueIn s (Indicators p) = some (indicators (textOf s p))
 valueIn s (SignalType n) = some (signalType n)
 valueIn s (Duration n) = some (duration n)
 
+-- a span does not go past the end of s
+abbrev pub inside : List ℕ → Span → Bool
+inside s p = leb (p .at + p .len) (length s)
+
+unfoldable pub allInside : List ℕ → ValuePlace → Bool
+allInside s (Action n) = true
+allInside s (Backbone p) = inside s p
+allInside s (Address p) = inside s p
+allInside s (CodecsPlace p) = inside s p
+allInside s (Single c) = inside s (c .information)
+allInside s (Report r p) = inside s p
+allInside s (Characteristics n) = true
+allInside s (Control p) = inside s p
+allInside s (Tunnelling b) = true
+allInside s (UnitPlace n l) = inside s n && inside s l
+allInside s (Signal k t) = true
+allInside s (Capability b) = true
+allInside s (Indicators p) = inside s p
+allInside s (SignalType n) = true
+allInside s (Duration n) = true
+
+-- What a value that is answered stands for: nothing where a span of it goes past the end.
+unfoldable pub answeredIn : List ℕ → ValuePlace → Option Value
+answeredIn s v = cond (allInside s v) (valueIn s v) none
+
 unfoldable pub readingIn : List ℕ → ReadingPlace → Option Reading
-readingIn s (Decoded v) = Option·map decoded (valueIn s v)
+readingIn s (Decoded v) = Option·map decoded (answeredIn s v)
 readingIn s (Unrecognised p) = some (unrecognised p)
 
 -- ---- judgements
@@ -134,7 +161,7 @@ judgementIn j = record { outcome = outcomeNumber (j .outcome); notice = j .notic
 
 -- s are the contents of the element
 unfoldable pub verdictIn : List ℕ → VerdictPlace → Option Verdict
-verdictIn s (Recognised v) = Option·map known (valueIn s v)
+verdictIn s (Recognised v) = Option·map known (answeredIn s v)
 verdictIn s (Unknown j) = some (unknown (judgementIn j))
 
 -- the number by which `dataOutcome` says what is made of the data

@@ -11,7 +11,6 @@ use lib.Dec.{eqb}
 use native.Mathlib.Omega.{arith}
 use borrow.Author.Tests.{eq-eqb, ne-eqb}
 use Rattle.octets.specs.declared.Span.{Span}
-use Rattle.octets.specs.Spans.{textOf}
 use Rattle.bat.specs.declared.Frame.{Frame}
 use Rattle.bat.specs.declared.Framed.{Framed}
 use Rattle.bat.specs.declared.Framed.the-variants.{Whole, Unframed, Ended}
@@ -23,12 +22,13 @@ use Rattle.bat.specs.declared.Reading.{Reading as ReadingPlace}
 use Rattle.bat.specs.declared.Reading.the-variants.{Decoded, Unrecognised}
 use Rattle.bat.specs.Framing.{octet, whole, front, onFront, walk}
 use Rattle.bat.specs.Values.{ListedCodec, codecs, signal, lasting, meant, decoded, unrecognised, Codecs, allCodecs, offence, withCodec, onCodecs, rightCodec, codecOf, isSingle, listedCodec, codecThen, codecsIn, codecListIn, kindOf, lastingOf, durationOf, rightType, isType, isDuration, lastBy, timedBy, signalBy, signalIn}
-use Rattle.bat.specs.Meaning.{wholeOf, elementIn, frontIn, WholeLength, kindIn, lastingIn, valueIn, readingIn}
+use Rattle.bat.specs.Meaning.{wholeOf, elementIn, frontIn, WholeLength, kindIn, lastingIn, allInside, answeredIn, valueIn, readingIn}
 use Rattle.bat.proofs.WalkLaws.{front-nil, walk-ended, walk-unframed, walk-first}
 use Rattle.bat.proofs.CountLaws.{frame-ended, frame-unframed, frame-is, frame-first, frame-length}
 use Rattle.bat_read.specs.declared.Offence.{Offence}
 use Rattle.bat_read.specs.declared.Offence.the-variants.{At, Nowhere}
 use Rattle.bat_read.specs.Examining.{offenceOf}
+use Rattle.bat_read.specs.Steps.{Stands}
 
 -- ---- the kind of an inner element, by its identifier i and a test of its contents
 module _ (s : List ℕ) (f : Frame) (i : ℕ) where
@@ -140,9 +140,9 @@ module _ (s : List ℕ) where
         go (allCodecs cs) q = absurd (let z : _≡_ {A = ℕ} 0 1 = cc in omega arith)
         go (offence k) q = let z : k ≡ d = cc in rw z
 
-    pub list-codecs : (p : Span) → textOf s p ≡ s → y ≡ Nowhere → readingIn s (Decoded (CodecsPlace p)) ≡ some (codecListIn s)
-    unfolding readingIn valueIn offenceOf onCodecs
-    list-codecs p a e = rw a (go (codecsIn s) (sym is ∙ e)) ∙ sym list-by
+    pub list-codecs : (p : Span) → Stands s s p → y ≡ Nowhere → readingIn s (Decoded (CodecsPlace p)) ≡ some (codecListIn s)
+    unfolding readingIn answeredIn allInside valueIn offenceOf onCodecs
+    list-codecs p a e = rw (a .within, a .is) (go (codecsIn s) (sym is ∙ e)) ∙ sym list-by
       where
         go : (x : Codecs) → offenceOf x ≡ Nowhere → Option·map decoded (onCodecs x (λ cs. some (codecs cs)) (λ d. none)) ≡ some (onCodecs x (λ cs. decoded (codecs cs)) (λ d. unrecognised (Inner d)))
         go (allCodecs cs) q = refl
@@ -173,7 +173,7 @@ module _ (k : Typed) (d : ℕ) (s : List ℕ) (f : Frame) (b : Bool) (is : b ≡
 
     pub last-whole : length s ≤ w → (c : List ℕ) → c ≡ elementIn s f .contents → (n : ℕ) → n ≡ durationOf c
         → readingIn m (Decoded (Signal k (Lasting (f .compatibility) n))) ≡ some (lastBy (kindIn k) d (elementIn s f) (drop (wholeOf f) s))
-    unfolding readingIn valueIn lastingIn lastBy
+    unfolding readingIn answeredIn allInside valueIn lastingIn lastBy
     last-whole h c e n p =
         let z : length (drop (wholeOf f) s) ≡ 0 = omega (arith, length-drop (wholeOf f) s, l .is) in
         let q : n ≡ durationOf (elementIn s f .contents) = p ∙ rw e in
@@ -184,7 +184,7 @@ pub ruleset lasts = (last-no, last-more, last-whole)
 -- behind the 14 stands s
 module _ (k : Typed) (d : ℕ) (s : List ℕ) (x : Framed) (is : frontIn s x ≡ some (front s)) (m : List ℕ) where
   pub timed-ended : x ≡ Ended → readingIn m (Decoded (Signal k Untimed)) ≡ some (timedBy (kindIn k) d s)
-  unfolding readingIn valueIn lastingIn timedBy onFront
+  unfolding readingIn answeredIn allInside valueIn lastingIn timedBy onFront
   timed-ended e = rw (frame-ended s x is e)
 
   pub timed-unframed : x ≡ Unframed → readingIn m (Unrecognised (Inner d)) ≡ some (timedBy (kindIn k) d s)

@@ -27,13 +27,14 @@ use Rattle.bat.specs.declared.DataAnswer.the-variants.{Refused as RefusedData, 
 use Rattle.bat.specs.Framing.{Element, Front, front, first, unframed, ended, onFront, elements, Cut, refused, taken, mostOctets, roomFor, cut}
 use Rattle.bat.specs.Values.{Value}
 use Rattle.bat.specs.Judging.{Verdict, known, unknown, verdict, says, someSays, dataOutcome, judgedBy, judgedData}
-use Rattle.bat.specs.Meaning.{wholeOf, elementIn, frontIn, WholeLength, valueIn, outcomeNumber, judgementIn, verdictIn, dataNumber, toldBy, toldOf, countOf}
+use Rattle.bat.specs.Meaning.{wholeOf, elementIn, frontIn, WholeLength, answeredIn, outcomeNumber, judgementIn, verdictIn, dataNumber, toldBy, toldOf, countOf}
 use Rattle.bat.proofs.WalkLaws.{front-nil, fold-ended, fold-unframed, fold-first, by-front}
 use Rattle.bat.proofs.DataLaws.{elements-ended, elements-unframed, elements-first}
 use Rattle.bat.proofs.CountLaws.{place-fits, place-falls}
 use Rattle.bat_read.specs.declared.Examined.{Examined}
 use Rattle.bat_read.specs.declared.Examined.the-variants.{Element as ElementAt, Unframed as NoFrame, Ended as NoMore}
-use Rattle.bat_read.specs.Examining.{element, noFrame, noMore, examine, examinedIn, asked, askedIn, askedBy, gravest}
+use Rattle.bat_read.specs.Examining.{element, noFrame, noMore, examine, examinedIn}
+use Rattle.bat_read.specs.Steps.{asked, askedIn, askedBy, gravest}
 
 -- ---- what one element asks
 pub asks-known : (v : VerdictPlace) (w : ValuePlace) → v ≡ Recognised w → dataNumber Neither ≡ askedIn v
@@ -71,7 +72,7 @@ unknown-asks j = refl
 
 asked-is : (s : List ℕ) (v : VerdictPlace) (w : Verdict) → verdictIn s v ≡ some w → askedIn v ≡ askedBy w
 unfolding verdictIn askedIn
-asked-is s (Recognised x) w p = known-asks (valueIn s x) w p
+asked-is s (Recognised x) w p = known-asks (answeredIn s x) w p
 asked-is s (Unknown j) w p = let q : unknown (judgementIn j) ≡ w = cc in rw (← q) (unknown-asks j)
 
 -- ---- the graver of two
@@ -210,7 +211,7 @@ module _ (pass : Bool) where
           (λ h. let (a, b) = seen-by t f v (verdictIn (elementIn t f .contents) v) refl (rw (le-leb (wholeOf f) (length t) h) at p) in (h, a, b))
           (λ h. let q : none ≡ some (examine pass t) = rw (lt-leb (wholeOf f) (length t) h) at p in absurd (let z : _≡_ {A = ℕ} 0 1 = cc in omega arith))
 
-      seen-front : frontIn t (Whole f) ≡ some (front t)
+      pub seen-front : frontIn t (Whole f) ≡ some (front t)
       unfolding frontIn
       seen-front = rw (le-leb (wholeOf f) (length t) (seen .0), seen .1)
 

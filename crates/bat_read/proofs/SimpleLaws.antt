@@ -6,26 +6,31 @@ use mathlib.Core.List.{List, [], _∷_}
 use mathlib.Core.Option.{Option, none, some, Option·map, Option·elim}
 use lib.ListN.{length, getD, drop, drop-of-length-le}
 use native.Mathlib.Omega.{arith}
-use borrow.Author.Tests.{lt-ltb, le-ltb, eq-eqb, ne-eqb}
+use borrow.Author.Tests.{le-leb, lt-ltb, le-ltb, eq-eqb, ne-eqb}
 use Rattle.octets.specs.declared.Span.{Span}
 use Rattle.octets.specs.Spans.{textOf}
 use Rattle.octets.proofs.LendLaws.{tail-is}
+use Rattle.octets.proofs.SpanLaws.{text-all}
 use Rattle.bat.specs.declared.Value.the-variants.{Report, Unit, Capability}
 use Rattle.bat.specs.declared.Place.the-variants.{Itself}
 use Rattle.bat.specs.declared.Reading.the-variants.{Decoded, Unrecognised}
 use Rattle.bat.specs.Framing.{octet, unmarked}
 use Rattle.bat.specs.Values.{Diagnostic, report, decoded, wrong, bit1, diagnosticsIn, reportIn, unitIn, capabilityIn}
-use Rattle.bat.specs.Meaning.{valueIn, readingIn}
+use Rattle.bat.specs.Meaning.{allInside, answeredIn, valueIn, readingIn}
+use Rattle.bat_read.specs.Steps.{Stands}
 
--- ---- what stands behind n octets
+-- ---- spans
+pub stands-all : (s : List ℕ) (n : ℕ) → n ≡ length s → Stands s s (record { at = 0; len = n })
+stands-all s n e = record { is = text-all s n e; within = le-leb (0 + n) (length s) (omega arith) }
+
 module _ (s : List ℕ) (n : ℕ) where
-  pub behind-none : length s < n → textOf s (record { at = 0; len = 0 }) ≡ drop n s
+  pub behind-none : length s < n → Stands s (drop n s) (record { at = 0; len = 0 })
   unfolding textOf
-  behind-none h = sym (drop-of-length-le s {i = n} (omega arith))
+  behind-none h = record { is = sym (drop-of-length-le s {i = n} (omega arith)); within = le-leb (0 + 0) (length s) (omega arith) }
 
-  pub behind-some : textOf s (record { at = n; len = length s - n }) ≡ drop n s
+  pub behind-some : n ≤ length s → Stands s (drop n s) (record { at = n; len = length s - n })
   unfolding textOf
-  behind-some = tail-is s n
+  behind-some h = record { is = tail-is s n; within = le-leb (n + (length s - n)) (length s) (omega arith) }
 
 -- ---- diagnostics are there exactly where the octets come in threes
 diagnostics-odd : (s : List ℕ) → (length s % 3 ≡ 0 → ⊥) → diagnosticsIn s ≡ none
@@ -57,11 +62,11 @@ unfolding readingIn reportIn Option·elim
 report-odd [] h k = absurd (omega arith)
 report-odd (r ∷ s) h k = rw (diagnostics-odd s (λ e. k (omega arith)))
 
-pub report-whole : (s : List ℕ) (p : Span) → 1 ≤ length s → (length s - 1) % 3 ≡ 0 → textOf s p ≡ drop 1 s
+pub report-whole : (s : List ℕ) (p : Span) → 1 ≤ length s → (length s - 1) % 3 ≡ 0 → Stands s (drop 1 s) p
     → readingIn s (Decoded (Report (getD s 0 0) p)) ≡ some (reportIn s)
-unfolding readingIn valueIn reportIn Option·elim
+unfolding readingIn answeredIn allInside valueIn reportIn Option·elim
 report-whole [] p h k e = absurd (omega arith)
-report-whole (r ∷ s) p h k e = rw e (go (diagnosticsIn s) refl)
+report-whole (r ∷ s) p h k e = rw (e .within, e .is) (go (diagnosticsIn s) refl)
   where
     go : (o : Option (List Diagnostic)) → diagnosticsIn s ≡ o → Option·map decoded (Option·map (report r) o) ≡ some (Option·elim o wrong (λ ds. decoded (report r ds)))
     go none q = absurd (diagnostics-whole s (omega arith) q)
@@ -78,13 +83,13 @@ unfolding readingIn unitIn
 unit-short [] n e h k = absurd (omega arith)
 unit-short (b ∷ s) n e h k = simp (le-ltb b (length s) (omega arith))
 
-pub unit-whole : (s : List ℕ) (n : ℕ) (p : Span) → n ≡ octet 0 s → 1 ≤ length s → n < length s - 1 → textOf s p ≡ drop (1 + n) s
+pub unit-whole : (s : List ℕ) (n : ℕ) (p : Span) → n ≡ octet 0 s → 1 ≤ length s → n < length s - 1 → Stands s (drop (1 + n) s) p
     → readingIn s (Decoded (Unit (record { at = 1; len = n }) p)) ≡ some (unitIn s)
-unfolding readingIn valueIn unitIn textOf
+unfolding readingIn answeredIn allInside valueIn unitIn textOf
 unit-whole [] n p i h k e = absurd (omega arith)
 unit-whole (b ∷ s) n p i h k e =
     let l : 1 + n ≡ suc n = omega arith in
-    rw (lt-ltb b (length s) (omega arith)) (rw (e, l, i))
+    rw (le-leb (1 + n) (suc (length s)) (omega arith), e .within, lt-ltb b (length s) (omega arith)) (rw (e .is, l, i))
 
 -- ---- 12
 module _ (s : List ℕ) where
@@ -98,7 +103,7 @@ module _ (s : List ℕ) where
     capability-no h = simp (ne-eqb (suc (unmarked s)) (length s) (λ e. h (omega arith)))
 
     pub capability-yes : x ≡ length s - 1 → readingIn s (Decoded (Capability (bit1 (getD s 0 0)))) ≡ some (capabilityIn s)
-    unfolding readingIn valueIn capabilityIn
+    unfolding readingIn answeredIn allInside valueIn capabilityIn
     capability-yes h = simp (eq-eqb (suc (unmarked s)) (length s) (omega arith))
 
 pub ruleset behinds = (behind-none, behind-some)

@@ -4,14 +4,14 @@ mod simple;
 
 ghost use mathlib.Core.Path.{_≡_};
 ghost use mathlib.Core.Option.{some};
-ghost use Prim.Native.Nat.{_≤_, max};
+ghost use Prim.Native.Nat.{ℕ, _≤_, max};
 ghost use Rattle.bat.specs.Framing.{front};
 ghost use Rattle.bat.specs.Values.{reading};
 ghost use Rattle.bat.specs.Judging.{verdict, judgedData};
 ghost use Rattle.bat.specs.Meaning.{readingIn, elementIn, frontIn, verdictIn, dataNumber, toldBy, toldOf};
 ghost use Rattle.bat.specs.declared.Framed.the-variants.{Whole};
-ghost use Rattle.bat_read.specs.Examining.{examine, examinedIn, indexIn, askedIn, gravest, listedFrom, listedIn, ownIn, ownOf};
-ghost use Rattle.bat.specs.Values.{Diagnostic as Meant};
+ghost use Rattle.bat_read.specs.Examining.{examine, examinedIn, Listing, listings, listingsIn};
+ghost use Rattle.bat_read.specs.Steps.{indexIn, askedIn, gravest, ownIn, ownOf};
 ghost use mathlib.Core.List.{List};
 ghost use lib.ListN.{drop};
 use bat::Counted;
@@ -32,7 +32,7 @@ pub enum Examined {
     Ended,
 }
 
-// A diagnostic that is listed, and a place in the data from which those behind it are found.
+// A diagnostic that is listed, and the place in the data behind its element.
 pub enum Listed {
     Next(Diagnostic, usize),
     NoneLeft,
@@ -186,7 +186,7 @@ pub fn judge_data(data: &[u8], entries: usize, pass: bool) -> DataAnswer
 
 // The diagnostic that an element lists, by its verdict.
 fn lists(v: Verdict) -> Own
-    ensures { λ r. ⌜ ((ds : List Meant) → ownIn r ds ≡ ownOf v ds) ⌝ }
+    ensures { λ r. ⌜ ((n : ℕ) (ls : List Listing) → ownIn r n ls ≡ ownOf v n ls) ⌝ }
 {
     match v {
         Verdict::Recognised(_) => Own::ListsNone,
@@ -200,10 +200,10 @@ fn lists(v: Verdict) -> Own
     }
 }
 
-// The first diagnostic that the elements of the data list from a place on, where passing on is possible
-// or not.
+// The first diagnostic that is listed of the data's elements from a place on, where passing on is possible
+// or not. Of data that can't be framed it is asked in vain: that is refused, and nothing of it is listed.
 pub fn next_listed(data: &[u8], from: usize, pass: bool) -> Listed
-    ensures { λ r. ⌜ listedIn pass (now («data» .entry)) r ≡ listedFrom pass (drop from (now («data» .entry))) ⌝ }
+    ensures { λ r. ⌜ listingsIn pass (now («data» .entry)) r ≡ listings pass from (drop from (now («data» .entry))) ⌝ }
 {
     let mut at = from;
     while at < data.len() {

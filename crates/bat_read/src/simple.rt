@@ -2,7 +2,7 @@
 ghost use mathlib.Core.Path.{_≡_};
 ghost use mathlib.Core.Option.{some};
 ghost use lib.ListN.{drop};
-ghost use Rattle.octets.specs.Spans.{textOf};
+ghost use Rattle.bat_read.specs.Steps.{Stands};
 ghost use Rattle.bat.specs.Values.{actionIn, backboneIn, addressIn, singleIn, reportIn, characteristicsIn, controlIn, tunnellingIn, unitIn, capabilityIn, indicatorsIn, typeIn, durationIn};
 ghost use Rattle.bat.specs.Meaning.{readingIn};
 use bat::Codec;
@@ -13,7 +13,7 @@ use octets::Span;
 
 // All of s.
 fn all(s: &[u8]) -> Span
-    ensures { λ r. ⌜ textOf (now (s .entry)) r ≡ now (s .entry) ⌝ }
+    ensures { λ r. ⌜ Stands (now (s .entry)) (now (s .entry)) r ⌝ }
 {
     Span {
         at: 0,
@@ -23,7 +23,7 @@ fn all(s: &[u8]) -> Span
 
 // What of s stands behind its first n octets.
 fn behind(s: &[u8], n: usize) -> Span
-    ensures { λ r. ⌜ textOf (now (s .entry)) r ≡ drop n (now (s .entry)) ⌝ }
+    ensures { λ r. ⌜ Stands (now (s .entry)) (drop n (now (s .entry))) r ⌝ }
 {
     if s.len() < n {
         return Span { at: 0, len: 0 };

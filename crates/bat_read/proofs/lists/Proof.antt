@@ -15,13 +15,13 @@ is-listed-requires : tie.Need-is-listed-requires
 is-listed-requires c κs = search needs
 
 returns : tie.Need-returns
-returns c = λ ds. search (owning, needs)
+returns c = λ n ls. search (owning, needs)
 
 returns-2 : tie.Need-returns-2
-returns-2 c = λ ds. search (owning, needs)
+returns-2 c = λ n ls. search (owning, needs)
 
 returns-3 : tie.Need-returns-3
-returns-3 c = λ ds. search (owning, needs)
+returns-3 c = λ n ls. search (owning, needs)
 
 pub lists-spec : {M : Type 1} → statement M
 lists-spec =

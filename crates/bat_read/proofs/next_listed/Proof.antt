@@ -3,7 +3,7 @@
 use Prim.Native.Nat.{_-_}
 use mathlib.Core.Path.{_≡_}
 use lib.ListN.{length, drop}
-use Rattle.bat_read.specs.Examining.{listedFrom}
+use Rattle.bat_read.specs.Examining.{listings}
 use Rattle.bat_read.proofs.OutcomeLaws.{seen-fits, seen-falls}
 use Rattle.bat_read.proofs.ListedLaws.{finding, list-next, list-more}
 use borrow.Author.Needs.{needs}
@@ -11,7 +11,7 @@ use Rattle.bat_read.proofs.next_listed.Statement.{statement}
 use Rattle.bat_read.proofs.next_listed.Tie as tie
 
 abbrev Inv-loop : tie.InvT-loop
-Inv-loop «data» from pass at₀ at = listedFrom pass (drop at «data») ≡ listedFrom pass (drop from «data»)
+Inv-loop «data» from pass at₀ at = listings pass at (drop at «data») ≡ listings pass from (drop from «data»)
 
 abbrev μ-loop : tie.MeasureT-loop
 μ-loop «data» from pass at₀ at = length «data» - at
