@@ -1,8 +1,8 @@
 #!/usr/bin/env bash
-# choose.sh: writes crates/inspect/stdin and crates/inspect/stdout, which the gate runs. Run from the
-# repository's root. Every fifth line of each mode in tests/vectors, from the first on, with the
+# choose.sh: writes crates/inspect/stdin and crates/inspect/stdout, which the gate runs. Every fifth line of each mode in tests/vectors, from the first on, with the
 # answer that stands there; then lines that are bad, one kind each. No answer is inspect's own.
 set -eu
+cd "$(dirname "$0")/.."
 in=crates/inspect/stdin
 out=crates/inspect/stdout
 : > "$in"

@@ -1,9 +1,10 @@
 #!/usr/bin/env bash
 # vectors.sh [PROGRAM]: runs every tests/vectors/MODE.in through inspect, each line behind its mode
-# word, and compares what comes out with MODE.out. Run from the repository's root; PROGRAM is the
-# built inspect, target/bin/inspect unless given. Ends with status 1 where a line differs.
+# word, and compares what comes out with MODE.out. PROGRAM is the built inspect, target/bin/inspect
+# unless given; tests/model.py can be given too. Ends with status 1 where a line differs.
 set -u
-program=${1:-target/bin/inspect}
+program=$(realpath -m "${1:-$(dirname "$0")/../target/bin/inspect}")
+cd "$(dirname "$0")/.." || exit 2
 if [ ! -x "$program" ]; then
     echo "no program $program (rt check inspect builds it)" >&2
     exit 2

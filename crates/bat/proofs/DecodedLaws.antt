@@ -16,7 +16,7 @@ use Rattle.codes.specs.Codes.{isAction, isSignal}
 use Rattle.bat.specs.declared.Place.{Place}
 use Rattle.bat.specs.declared.Place.the-variants.{Itself, Inner}
 use Rattle.bat.specs.Framing.{octet, sized, lengthOf, unmarked, Element, head, whole, Front, first, unframed, ended, front, onFront, walk, mostOctets}
-use Rattle.bat.specs.Values.{Diagnostic, Codec, ListedCodec, Kind, Lasting, untimed, Value, action, backbone, address, codecs, single, report, characteristics, control, tunnelling, controlUnit, signal, capability, indicators, signalType, duration, Reading, decoded, unrecognised, wrong, meant, bit1, rightCodec, codecOf, actionIn, backboneIn, addressIn, singleIn, diagnosticsIn, reportIn, characteristicsIn, controlIn, tunnellingIn, unitIn, capabilityIn, rightIndicators, indicatorsIn, rightType, typeIn, durationOf, durationIn, Codecs, allCodecs, offence, withCodec, onCodecs, isSingle, listedCodec, codecThen, codecsIn, codecListIn, isType, isDuration, kindOf, lastingOf, lastBy, timedBy, signalBy, signalIn, reading}
+use Rattle.bat.specs.Values.{Diagnostic, Codec, ListedCodec, Kind, Lasting, untimed, Value, action, backbone, address, codecs, single, report, characteristics, control, tunnelling, controlUnit, signal, capability, indicators, signalType, duration, Reading, decoded, unrecognised, wrong, meant, bit1, rightCodec, codecOf, actionIn, backboneIn, addressIn, singleIn, diagnosticsIn, reportIn, characteristicsIn, controlIn, tunnellingIn, unitIn, capabilityIn, rightIndicators, indicatorsIn, rightType, typeIn, wordOf, durationIn, Codecs, allCodecs, offence, withCodec, onCodecs, isSingle, listedCodec, codecThen, codecsIn, codecListIn, isType, isDuration, kindOf, lastingOf, lastBy, timedBy, signalBy, signalIn, reading}
 use Rattle.bat.specs.Writing.{sizeText, elementText, wordText, codecText, codecsText, diagnosticsText, lastingText, identifierOf, contentsText, allCodecsRight, inRange, valueText, octetsOf}
 use Rattle.octets.proofs.CaseLaws.{by-eq, by-lt, by-le}
 use Rattle.bat.proofs.WalkLaws.{size-small, size-low, front-within, front-size, front-length, front-nil, walk-ended, walk-unframed, walk-first, by-front}
@@ -173,7 +173,7 @@ kept-lasting k d t v (first e u) p =
     decoded-if (isDuration e) (Inner d) (λ is. decoded-if (eqb (length u) 0) (Inner (d + length (whole e))) (λ last q.
     let (named, two) = and-both (eqb (e .identifier) 15) (eqb (length (e .contents)) 2) is in
     let c = meant (e .compatibility) in
-    let l = elementText-whole t e u p 15 c (wordText (durationOf (e .contents))) (omega (arith, eqb-true)) in
+    let l = elementText-whole t e u p 15 c (wordText (wordOf (e .contents))) (omega (arith, eqb-true)) in
     (lastingOf e, record { settles = lt-ltb c 128 (omega arith); shrinks = omega (arith, front-length t e u p) }, q)))
 kept-lasting k d t v unframed p = decoded-never
 kept-lasting k d t v ended p = λ q. (untimed, record { settles = refl; shrinks = omega arith }, q)
@@ -212,7 +212,7 @@ reading-kept i s v small =
     (kept-or 12 (decoded-if (eqb (suc (unmarked s)) (length s)) Itself (λ ends. kept-as (capability (bit1 (octet 0 s))) refl refl refl (omega (arith, eqb-true))))
     (kept-or 13 (decoded-if (rightIndicators s) Itself (λ r. kept-as (indicators s) refl r refl all))
     (kept-or 14 (decoded-if (rightType s) Itself (λ r. let (one, known) = and-both (eqb (length s) 1) (isSignal (octet 0 s)) r in kept-as (signalType (octet 0 s)) refl known refl (omega (arith, eqb-true))))
-    (kept-or 15 (decoded-if (eqb (length s) 2) Itself (λ two. kept-as (duration (durationOf s)) refl refl refl (omega (arith, eqb-true))))
+    (kept-or 15 (decoded-if (eqb (length s) 2) Itself (λ two. kept-as (duration (wordOf s)) refl refl refl (omega (arith, eqb-true))))
     decoded-never))))))))))))))
 
 -- ---- an element at the front of octets

@@ -16,12 +16,12 @@ module _ (j : Judged) where
   unfolding isListed judgementIn outcomeNumber
   listed-element e = rw e
 
-  pub listed-data : j .outcome ≡ DiscardData → j .notice ≡ isListed (judgementIn j)
+  pub listed-discard : j .outcome ≡ DiscardData → j .notice ≡ isListed (judgementIn j)
   unfolding isListed judgementIn outcomeNumber
-  listed-data e = rw e
+  listed-discard e = rw e
 
   pub listed-release : j .outcome ≡ Release → false ≡ isListed (judgementIn j)
   unfolding isListed judgementIn outcomeNumber
   listed-release e = rw e
 
-pub ruleset listing = (listed-pass, listed-element, listed-data, listed-release)
+pub ruleset listing = (listed-pass, listed-element, listed-discard, listed-release)

@@ -1,4 +1,4 @@
--- Document 01, "Elements", the first two paragraphs (Q.765.5, 4.6.1.1): the four fields of an element, and how
+-- Document 01, "Elements", the first two paragraphs (YD/T 1193.4 after Q.765.5, 4.6.1.1): the four fields of an element, and how
 -- application data is cut into elements. Numbers 1, 2 and 3. Stricter than 4.6.1.1, which sets no bound: data
 -- has at most 2,048 octets, and a length is not 0, since it counts a compatibility octet.
 use Prim.Native.Nat.{ℕ, zero, suc, _+_, _*_, _%_}
@@ -129,10 +129,10 @@ pub data Cut : Type 0 where
   refused : ℕ → Cut
   taken : List Element → Cut
 
--- more elements than the table has entries
+-- the table is too small
 unfoldable pub roomFor : ℕ → List Element → Cut
 roomFor entries es = cond (ltb entries (length es)) (refused 3) (taken es)
 
--- 1, 2, 3, in this order
+-- the data is too long; it can't be framed; the table is too small: the first of these that holds
 unfoldable pub cut : ℕ → List ℕ → Cut
 cut entries s = cond (ltb mostOctets (length s)) (refused 1) (Option·elim (elements s) (refused 2) (roomFor entries))

@@ -1,4 +1,4 @@
--- Document 01, "Elements", the last two paragraphs (Q.765.5, 4.6.1.1, figure 9, and 4.6.1.8 b): what is made of
+-- Document 01, "Elements", the last two paragraphs (YD/T 1193.4 after Q.765.5, 4.6.1.1, figure 9, and 4.6.1.8 b): what is made of
 -- an element that is not recognised, by its first compatibility octet, and what of the data.
 use Prim.Native.Nat.{ℕ, _+_, _/_, _%_}
 use mathlib.Core.List.{List, [], _∷_, map}
@@ -18,20 +18,20 @@ indexBy n Itself = 0
 indexBy n (Inner d) = n + d
 
 -- ---- the outcome
--- Outcomes by number: pass on 0, discard element 1, discard data 2, release 3.
--- pass on is asked and is not possible
+-- An outcome is a number: 0 has the element passed on, 1 the element discarded, 2 the data discarded, 3 the call
+-- released. The first choice is to pass the element on, and that can't be done:
 abbrev pub noPass : Bool → ℕ → Bool
 noPass pass c = eqb (c % 4) 0 && not pass
 
--- bits 6 and 5: release 0, element 1, data 2, release 3
+-- the second choice, for that case; there is no passing on in it, and 0 means release
 unfoldable pub secondChoice : ℕ → ℕ
 secondChoice n = cond (eqb n 0) 3 n
 
--- bits 2 and 1 of the compatibility octet c; bits 6 and 5 where passing on is not possible
+-- the first choice of the compatibility octet c is its bits 2 and 1, the second its bits 6 and 5
 unfoldable pub outcomeOf : Bool → ℕ → ℕ
 outcomeOf pass c = cond (noPass pass c) (secondChoice (c / 16 % 4)) (c % 4)
 
--- bit 3 asks notice; bit 7 where passing on is not possible
+-- whether notice is asked: bit 3 with the first choice, bit 7 with the second
 unfoldable pub noticeOf : Bool → ℕ → Bool
 noticeOf pass c = cond (noPass pass c) (eqb (c / 64 % 2) 1) (eqb (c / 4 % 2) 1)
 
@@ -51,6 +51,7 @@ pub data Verdict : Type 0 where
   known : Value → Verdict
   unknown : Judgement → Verdict
 
+-- An element is judged by its own compatibility octet; those of its inner elements are not asked.
 unfoldable pub verdictBy : Bool → Element → Reading → Verdict
 verdictBy pass e (decoded v) = known v
 verdictBy pass e (unrecognised place) = unknown (judgement pass (e .identifier) (e .compatibility) (indexBy (length (head e)) place))
@@ -88,11 +89,11 @@ dataOutcome vs = cond (someSays 3 vs) 3 (cond (someSays 2 vs) 2 0)
 
 -- Application data is refused by its number, or it has these verdicts, one for each element.
 pub data Answer : Type 0 where
-  turned : ℕ → Answer
+  refusedData : ℕ → Answer
   judged : List Verdict → Answer
 
 unfoldable pub judgedBy : Bool → Cut → Answer
-judgedBy pass (refused n) = turned n
+judgedBy pass (refused n) = refusedData n
 judgedBy pass (taken es) = judged (map (verdict pass) es)
 
 unfoldable pub judgedData : Bool → ℕ → List ℕ → Answer

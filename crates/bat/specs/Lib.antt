@@ -1,3 +1,4 @@
+-- What elements are, in document 01's order, and what the code's answers stand for.
 pub mod Framing
 pub mod Values
 pub mod Judging

@@ -35,7 +35,7 @@ use Rattle.bat.specs.declared.DataAnswer.{DataAnswer}
 use Rattle.bat.specs.declared.DataAnswer.the-variants.{Refused as RefusedData, Taken}
 use Rattle.bat.specs.Framing.{Length, sized, unsized, Element, Front, first, unframed, ended, Cut, refused, taken}
 use Rattle.bat.specs.Values.{Diagnostic, Codec, Kind, Lasting, untimed, lasting, Value, action, backbone, address, codecs, single, report, characteristics, control, tunnelling, controlUnit, signal, capability, indicators, signalType, duration, Reading, decoded, unrecognised, meant, diagnosticsIn, codecsIn, onCodecs}
-use Rattle.bat.specs.Judging.{Judgement, Verdict, known, unknown, dataOutcome, Answer, turned, judged}
+use Rattle.bat.specs.Judging.{Judgement, Verdict, known, unknown, dataOutcome, Answer, refusedData, judged}
 
 -- ---- framing
 -- a length at the front of s, if s has that many octets
@@ -67,7 +67,8 @@ frontIn s (Whole f) = cond (leb (wholeOf f) (length s)) (some (first (elementIn 
 frontIn s Unframed = some unframed
 frontIn s Ended = some ended
 
--- These two, as answers. The bounds follow, and are here for callers.
+-- The answers of `head_length` and `whole_length`. The bounds follow from the widths of a frame's fields (2 + 255 +
+-- 65535, and 65535 more), and are here for callers.
 pub record HeadLength (f : Frame) (r : ℕ) : Type 0 where
   pub is : r ≡ headOf f
   pub few : r ≤ 65792
@@ -172,13 +173,13 @@ dataNumber ReleaseAll = 3
 
 -- What is answered to application data: document 01's number, or the count of elements and their outcome.
 pub data Told : Type 0 where
-  number : ℕ → Told
-  outcome : ℕ → ℕ → Told
+  refusal : ℕ → Told
+  accepted : ℕ → ℕ → Told
 
 unfoldable pub toldBy : DataAnswer → Told
-toldBy (RefusedData n) = number n
-toldBy (Taken n o) = outcome n (dataNumber o)
+toldBy (RefusedData n) = refusal n
+toldBy (Taken n o) = accepted n (dataNumber o)
 
 unfoldable pub toldOf : Answer → Told
-toldOf (turned n) = number n
-toldOf (judged vs) = outcome (length vs) (dataOutcome vs)
+toldOf (refusedData n) = refusal n
+toldOf (judged vs) = accepted (length vs) (dataOutcome vs)

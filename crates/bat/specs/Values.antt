@@ -1,5 +1,5 @@
--- Document 01, "Elements", the list of identifiers, in the order of Q.765.5 (4.6.1.2 to 4.6.1.17): what the
--- contents of an element are decoded as, if they are. Where Q.765.5 leaves a code spare or a length open,
+-- Document 01, "Elements", the list of identifiers (YD/T 1193.4 after Q.765.5, 4.6.1.2 to 4.6.1.17), simple elements
+-- in the order of their numbers and then the two constructors: what the contents of an element are decoded as, if they are. Where Q.765.5 leaves a code spare or a length open,
 -- document 01's ranges decide: outside them the element is not recognised.
 use Prim.Native.Nat.{ℕ, suc, _+_, _*_, _%_}
 use mathlib.Core.List.{List, [], _∷_}
@@ -88,6 +88,10 @@ meant c = c % 128
 abbrev pub bit1 : ℕ → Bool
 bit1 b = eqb (b % 2) 1
 
+-- the sixteen bits at the front of s, the high octet first
+abbrev pub wordOf : List ℕ → ℕ
+wordOf s = octet 0 s * 256 + octet 1 s
+
 -- ---- simple elements
 -- 1, action (4.6.1.3): a single octet, whose code is an action's
 unfoldable pub actionIn : List ℕ → Reading
@@ -126,7 +130,7 @@ diagnosticsIn [] = some []
 diagnosticsIn (i ∷ []) = none
 diagnosticsIn (i ∷ a ∷ []) = none
 diagnosticsIn (i ∷ a ∷ b ∷ s) =
-    Option·map (λ (r : List Diagnostic). record { identifier = i; index = a * 256 + b } ∷ r) (diagnosticsIn s)
+    Option·map (λ (r : List Diagnostic). record { identifier = i; index = wordOf (a ∷ b ∷ []) } ∷ r) (diagnosticsIn s)
 
 unfoldable pub reportIn : List ℕ → Reading
 reportIn [] = wrong
@@ -173,12 +177,9 @@ rightType s = eqb (length s) 1 && isSignal (octet 0 s)
 unfoldable pub typeIn : List ℕ → Reading
 typeIn s = cond (rightType s) (decoded (signalType (octet 0 s))) wrong
 
--- 15, duration (4.6.1.17): sixteen bits, the high octet first
-abbrev pub durationOf : List ℕ → ℕ
-durationOf s = octet 0 s * 256 + octet 1 s
-
+-- 15, duration (4.6.1.17): sixteen bits
 unfoldable pub durationIn : List ℕ → Reading
-durationIn s = cond (eqb (length s) 2) (decoded (duration (durationOf s))) wrong
+durationIn s = cond (eqb (length s) 2) (decoded (duration (wordOf s))) wrong
 
 -- ---- constructors
 -- A constructor is decoded only if everything in it is. If not, it is at fault itself where it is empty, and else
@@ -226,7 +227,7 @@ abbrev pub kindOf : Element → Kind
 kindOf e = record { compatibility = meant (e .compatibility); kind = octet 0 (e .contents) }
 
 abbrev pub lastingOf : Element → Lasting
-lastingOf e = lasting (meant (e .compatibility)) (durationOf (e .contents))
+lastingOf e = lasting (meant (e .compatibility)) (wordOf (e .contents))
 
 -- behind the 14, which has d octets, and the 15 e comes t
 unfoldable pub lastBy : Kind → ℕ → Element → List ℕ → Reading

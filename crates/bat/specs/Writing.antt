@@ -27,7 +27,7 @@ elementText i c s = i ∷ (sizeText (suc (length s)) ++ ((128 + c) ∷ s))
 abbrev pub bitText : Bool → ℕ
 bitText b = cond b 1 0
 
--- sixteen bits, most significant first
+-- sixteen bits, the high octet first
 abbrev pub wordText : ℕ → List ℕ
 wordText n = n / 256 ∷ n % 256 ∷ []
 
@@ -85,7 +85,8 @@ unfoldable pub allCodecsRight : List ListedCodec → Bool
 allCodecsRight [] = true
 allCodecsRight (c ∷ cs) = rightCodec (c .codec) && allCodecsRight cs
 
--- every field is in the range in which it is decoded
+-- Every field is in the range in which it is decoded. A field that is held in just the bits in which it is
+-- written (an octet, sixteen bits, the seven of a compatibility octet) has no other range.
 unfoldable pub inRange : Value → Bool
 inRange (action n) = isAction n
 inRange (backbone s) = leb 1 (length s) && leb (length s) 4
@@ -117,12 +118,12 @@ unfoldable pub octetsIn : ℕ → Option Value → Option (List ℕ)
 octetsIn c none = none
 octetsIn c (some v) = octetsOf c v
 
--- 5, then 4
+-- 5 where there are none; 4 where there is no room for them
 unfoldable pub putAnswer : ℕ → Option (List ℕ) → Put
 putAnswer room none = RefusedPut 5
 putAnswer room (some t) = cond (ltb room (length t)) (RefusedPut 4) (Octets (length t))
 
--- a refusal leaves the buffer as it was, and else the octets past those written stay
+-- a refused call changes nothing; a taken one changes only the front that it fills
 unfoldable pub putLeaves : List ℕ → Option (List ℕ) → List ℕ
 putLeaves l none = l
 putLeaves l (some t) = cond (ltb (length l) (length t)) l (t ++ drop (length t) l)

@@ -143,7 +143,7 @@ fn count_elements(data: &[u8]) -> Counted
 }
 
 // How many elements the data has, or the number that refuses it: 1 where it is too long, 2 where it
-// can't be framed, 3 where it has more elements than the table has entries.
+// can't be framed, 3 where the table is too small.
 pub fn count(data: &[u8], entries: usize) -> Counted
     ensures { λ r. ⌜ r ≡ countOf (cut entries (now («data» .entry))) ⌝ }
 {

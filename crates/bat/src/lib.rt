@@ -45,13 +45,13 @@ pub struct Codec {
     pub information: Span,
 }
 
-// The signal type inside a signal, with its own compatibility octet.
+// The signal type inside a signal, with its own compatibility octet, of which bits 7 to 1 count.
 pub struct Typed {
     pub compatibility: u8,
     pub kind: u8,
 }
 
-// The duration inside a signal, with its own compatibility octet.
+// The duration inside a signal, with its own compatibility octet, of which bits 7 to 1 count.
 pub enum Timed {
     Untimed,
     Lasting { compatibility: u8, duration: u16 },

@@ -3,7 +3,7 @@ ghost use mathlib.Core.Path.{_≡_};
 ghost use mathlib.Core.Bool.{_&&_};
 ghost use lib.ListN.{length};
 ghost use lib.Dec.{leb};
-ghost use Rattle.bat.specs.Values.{ituCodec, rightCodec, codecOf, allIndicators, rightIndicators, rightType, durationOf};
+ghost use Rattle.bat.specs.Values.{ituCodec, rightCodec, codecOf, allIndicators, rightIndicators, rightType, wordOf};
 
 // s has from `least` to `most` octets.
 pub fn between(s: &[u8], least: usize, most: usize) -> bool
@@ -98,7 +98,7 @@ pub fn is_type(s: &[u8]) -> bool
 
 // The number that the first two octets of s stand for, most significant first.
 pub fn word(s: &[u8]) -> u16
-    ensures { λ r. ⌜ r ≡ durationOf (now (s .entry)) ⌝ }
+    ensures { λ r. ⌜ r ≡ wordOf (now (s .entry)) ⌝ }
 {
     let a = crate::framing::octet_at(s, 0) as u16;
     let b = crate::framing::octet_at(s, 1) as u16;

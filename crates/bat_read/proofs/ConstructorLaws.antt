@@ -21,7 +21,7 @@ use Rattle.bat.specs.declared.Place.the-variants.{Itself, Inner}
 use Rattle.bat.specs.declared.Reading.{Reading as ReadingPlace}
 use Rattle.bat.specs.declared.Reading.the-variants.{Decoded, Unrecognised}
 use Rattle.bat.specs.Framing.{octet, whole, front, onFront, walk}
-use Rattle.bat.specs.Values.{ListedCodec, codecs, signal, lasting, meant, decoded, unrecognised, Codecs, allCodecs, offence, withCodec, onCodecs, rightCodec, codecOf, isSingle, listedCodec, codecThen, codecsIn, codecListIn, kindOf, lastingOf, durationOf, rightType, isType, isDuration, lastBy, timedBy, signalBy, signalIn}
+use Rattle.bat.specs.Values.{ListedCodec, codecs, signal, lasting, meant, decoded, unrecognised, Codecs, allCodecs, offence, withCodec, onCodecs, rightCodec, codecOf, isSingle, listedCodec, codecThen, codecsIn, codecListIn, kindOf, lastingOf, wordOf, rightType, isType, isDuration, lastBy, timedBy, signalBy, signalIn}
 use Rattle.bat.specs.Meaning.{wholeOf, elementIn, frontIn, WholeLength, kindIn, lastingIn, allInside, answeredIn, valueIn, readingIn}
 use Rattle.bat.proofs.WalkLaws.{front-nil, walk-ended, walk-unframed, walk-first}
 use Rattle.bat.proofs.CountLaws.{frame-ended, frame-unframed, frame-is, frame-first, frame-length}
@@ -158,7 +158,7 @@ module _ (k : Typed) (d : ℕ) (s : List ℕ) (f : Frame) (b : Bool) (is : b ≡
   last-no h = let n : isDuration (elementIn s f) ≡ false = sym is ∙ h in rw n
 
   module _ (yes : b ≡ true) (here : frontIn s (Whole f) ≡ some (front s)) (w : ℕ) (l : WholeLength f w) where
-    lasting-is : (n : ℕ) → n ≡ durationOf (elementIn s f .contents) → some (decoded (signal (kindIn k) (lasting (meant (f .compatibility)) n))) ≡ some (decoded (signal (kindIn k) (lastingOf (elementIn s f))))
+    lasting-is : (n : ℕ) → n ≡ wordOf (elementIn s f .contents) → some (decoded (signal (kindIn k) (lasting (meant (f .compatibility)) n))) ≡ some (decoded (signal (kindIn k) (lastingOf (elementIn s f))))
     unfolding elementIn
     lasting-is n q = rw q
 
@@ -171,12 +171,12 @@ module _ (k : Typed) (d : ℕ) (s : List ℕ) (f : Frame) (b : Bool) (is : b ≡
         let n : length (drop (wholeOf f) s) ≡ 0 → ⊥ = λ e. omega (arith, length-drop (wholeOf f) s, l .is) in
         rw (duration-is, ne-eqb (length (drop (wholeOf f) s)) 0 n, ← frame-length s (Whole f) here f refl w l)
 
-    pub last-whole : length s ≤ w → (c : List ℕ) → c ≡ elementIn s f .contents → (n : ℕ) → n ≡ durationOf c
+    pub last-whole : length s ≤ w → (c : List ℕ) → c ≡ elementIn s f .contents → (n : ℕ) → n ≡ wordOf c
         → readingIn m (Decoded (Signal k (Lasting (f .compatibility) n))) ≡ some (lastBy (kindIn k) d (elementIn s f) (drop (wholeOf f) s))
     unfolding readingIn answeredIn allInside valueIn lastingIn lastBy
     last-whole h c e n p =
         let z : length (drop (wholeOf f) s) ≡ 0 = omega (arith, length-drop (wholeOf f) s, l .is) in
-        let q : n ≡ durationOf (elementIn s f .contents) = p ∙ rw e in
+        let q : n ≡ wordOf (elementIn s f .contents) = p ∙ rw e in
         rw (duration-is, eq-eqb (length (drop (wholeOf f) s)) 0 z) (lasting-is n q)
 
 pub ruleset lasts = (last-no, last-more, last-whole)

@@ -11,7 +11,7 @@ use native.Mathlib.Omega.{arith}
 use Rattle.codes.specs.Codes.{isAction}
 use Rattle.bat.specs.declared.Place.the-variants.{Itself, Inner}
 use Rattle.bat.specs.Framing.{octet, unmarked, Element, whole, Front, front, first, unframed, ended, onFront}
-use Rattle.bat.specs.Values.{Diagnostic, ListedCodec, Value, action, backbone, address, codecs, single, report, characteristics, control, tunnelling, controlUnit, capability, indicators, signalType, duration, signal, untimed, Reading, decoded, unrecognised, wrong, bit1, rightCodec, codecOf, rightIndicators, rightType, durationOf, Codecs, allCodecs, offence, withCodec, onCodecs, codecThen, codecsIn, isSingle, listedCodec, actionIn, backboneIn, addressIn, singleIn, diagnosticsIn, reportIn, characteristicsIn, controlIn, tunnellingIn, unitIn, capabilityIn, indicatorsIn, typeIn, durationIn, codecListIn, Kind, kindOf, lastingOf, isType, isDuration, lastBy, timedBy, signalBy, signalIn, reading}
+use Rattle.bat.specs.Values.{Diagnostic, ListedCodec, Value, action, backbone, address, codecs, single, report, characteristics, control, tunnelling, controlUnit, capability, indicators, signalType, duration, signal, untimed, Reading, decoded, unrecognised, wrong, bit1, rightCodec, codecOf, rightIndicators, rightType, wordOf, Codecs, allCodecs, offence, withCodec, onCodecs, codecThen, codecsIn, isSingle, listedCodec, actionIn, backboneIn, addressIn, singleIn, diagnosticsIn, reportIn, characteristicsIn, controlIn, tunnellingIn, unitIn, capabilityIn, indicatorsIn, typeIn, durationIn, codecListIn, Kind, kindOf, lastingOf, isType, isDuration, lastBy, timedBy, signalBy, signalIn, reading}
 use Rattle.bat.proofs.WalkLaws.{front-nil, front-length, walk-ended, walk-unframed, walk-first, by-front}
 use Rattle.bat_read.proofs.ConstructorLaws.{codecsAt}
 
@@ -138,5 +138,5 @@ inner-inside i s =
     (inner-cond (eqb i 12) (capabilityIn s) from-13 n (simple n (eqb (suc (unmarked s)) n) (capability (bit1 (octet 0 s))))
     (inner-cond (eqb i 13) (indicatorsIn s) from-14 n (simple n (rightIndicators s) (indicators s))
     (inner-cond (eqb i 14) (typeIn s) from-15 n (simple n (rightType s) (signalType (octet 0 s)))
-    (inner-cond (eqb i 15) (durationIn s) all-else n (simple n (eqb n 2) (duration (durationOf s)))
+    (inner-cond (eqb i 15) (durationIn s) all-else n (simple n (eqb n 2) (duration (wordOf s)))
     (omega arith)))))))))))))))

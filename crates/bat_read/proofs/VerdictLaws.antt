@@ -1,4 +1,4 @@
--- What is made of an element follows from how its contents are read, and what is made of the data from its elements.
+-- What is made of an element follows from how its contents are read, and an answer to the front of octets from that.
 -- Assumes nothing.
 use Prim.Native.Nat.{ℕ, _+_, _≤_}
 use mathlib.Core.Path.{_≡_, refl, sym, ap, _∙_}

@@ -29,7 +29,7 @@ fn is_single(s: &[u8], f: Frame) -> bool
     bat::ranges::is_codec(bat::framing::contents(s, f))
 }
 
-// Reads the elements of s as single codecs.
+// Where the first element of s stands that is no single codec, octets that make no element included.
 pub fn find_offence(s: &[u8]) -> Offence
     ensures { λ r. ⌜ r ≡ offenceOf (codecsIn (now (s .entry))) ⌝ }
 {

@@ -1,5 +1,5 @@
--- What stands between a value whose spans are places in octets and the octets of its element: its contents, its
--- identifier and its length.
+-- For the functions of this crate that are not public: what stands between a value whose spans are places in octets
+-- and the octets of its element.
 use Prim.Native.Nat.{ℕ, _+_}
 use mathlib.Core.List.{List, [], _++_}
 use mathlib.Core.Bool.{Bool, false, cond}

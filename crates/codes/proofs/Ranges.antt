@@ -1,4 +1,5 @@
--- Each table as a whole: the runs of true and false that the rule makes over 256 codes. Both sides compute to the same list.
+-- The values of each rule over all 256 codes, which its table is (the proof of the function that reads the table
+-- computes that), are runs of true and false: document 01's ranges, seen as a whole.
 -- Assumes nothing.
 use mathlib.Core.Path.{_≡_, refl}
 use mathlib.Core.Bool.{true, false}

@@ -1,5 +1,5 @@
--- Document 01, "Examples on each side", those marked P, as one table: what is asked, and the answer. antt
--- computes the definitions on every row.
+-- Document 01, "Examples on each side", those marked P, as one table: what is asked, and the answer. The
+-- two sides compute to the same list.
 -- Assumes nothing.
 use Prim.Native.Nat.{ℕ}
 use mathlib.Core.Path.{_≡_, refl}
@@ -9,7 +9,7 @@ use mathlib.Core.Option.{Option, none, some, Option·elim}
 use Rattle.codes.specs.Codes.{isAction}
 use Rattle.bat.specs.Framing.{Length, sized, unsized, lengthOf, unmarked, head, whole, countedBy, elementBy, sizedBy, front, onFront, walkFrom, walk, fold, elements, roomFor, cut}
 use Rattle.bat.specs.Values.{Diagnostic, action, ituCodec, rightCodec, actionIn, withCodec, onCodecs, isSingle, codecThen, codecsIn, codecListIn, reading}
-use Rattle.bat.specs.Judging.{indexBy, secondChoice, outcomeOf, noticeOf, judgement, Verdict, known, unknown, verdictBy, verdict, Answer, turned, judged, judgedBy, judgedData}
+use Rattle.bat.specs.Judging.{indexBy, secondChoice, outcomeOf, noticeOf, judgement, Verdict, known, unknown, verdictBy, verdict, Answer, refusedData, judged, judgedBy, judgedData}
 
 -- what the number of a length field is, if it is one
 lengthNumber : Length → Option ℕ
@@ -23,7 +23,7 @@ diagnostics (known v ∷ vs) = diagnostics vs
 diagnostics (unknown j ∷ vs) = j .diagnostic ∷ diagnostics vs
 
 diagnosed : Answer → Option (List Diagnostic)
-diagnosed (turned n) = none
+diagnosed (refusedData n) = none
 diagnosed (judged vs) = some (diagnostics vs)
 
 data Question : Type 0 where
@@ -63,8 +63,8 @@ examples =
     }
     ∷ record { asked = length-of (0x00 ∷ 0x81 ∷ []); right = a-length (some 128) }
     ∷ record { asked = length-of (0x7F ∷ 0x8F ∷ []); right = a-length (some 2047) }
-    ∷ record { asked = answer-to (0x01 ∷ 0x80 ∷ []); right = an-answer (turned 2) }
-    ∷ record { asked = answer-to (0x01 ∷ 0x00 ∷ 0x01 ∷ []); right = an-answer (turned 2) }
+    ∷ record { asked = answer-to (0x01 ∷ 0x80 ∷ []); right = an-answer (refusedData 2) }
+    ∷ record { asked = answer-to (0x01 ∷ 0x00 ∷ 0x01 ∷ []); right = an-answer (refusedData 2) }
     ∷ record { asked = asked-by 0xB0; right = an-outcome 3 false }
     ∷ record { asked = asked-by 0xD0; right = an-outcome 1 true }
     ∷ []

@@ -75,7 +75,7 @@ fn push_verdict(s: &[u8], f: Frame, v: Verdict, out: &mut [u8], at: usize) -> us
     }
 }
 
-// Appends each element of the data. (The next one is always behind this one; the test shows that the
+// Appends each element of the data. (The next one is always behind this one; the `if` shows that the
 // loop ends.)
 fn push_elements(data: &[u8], pass: bool, out: &mut [u8], at: usize) -> usize {
     let mut k = at;
@@ -107,7 +107,7 @@ fn push_listing(d: Diagnostic, first: usize, out: &mut [u8], at: usize) -> usize
 }
 
 // Appends the listed diagnostics of the data's elements. (The next one is always looked for behind this
-// one; the test shows that the loop ends.)
+// one; the `if` shows that the loop ends.)
 fn push_listings(data: &[u8], pass: bool, out: &mut [u8], at: usize) -> usize {
     let mut k = at;
     let mut i = 0;

@@ -87,7 +87,7 @@ fn make_room(out: &[u8], state: State) -> State {
     st
 }
 
-// The lines that end in part, and the beginning of the next. (`next` is always past i; the test shows
+// The lines that end in part, and the beginning of the next. (`next` is always past i; the `if` shows
 // that the loop ends.)
 fn feed(
     part: &[u8],

@@ -20,40 +20,6 @@ pub fn text(m: &[u8], sp: Span) -> &[u8]
     &m[at..end]
 }
 
-// The span in m of what p stands for in the text of sp.
-pub fn inner(m: &[u8], sp: Span, p: Span) -> Span
-    ensures { λ r. ⌜ textOf (now (m .entry)) r ≡ textOf (textOf (now (m .entry)) sp) p ⌝ }
-{
-    let at = sp.at;
-    let len = sp.len;
-    let a = p.at;
-    let l = p.len;
-    if m.len() < at {
-        return Span { at: 0, len: 0 };
-    }
-    if m.len() - at < a {
-        return Span { at: 0, len: 0 };
-    }
-    if len < a {
-        return Span { at: 0, len: 0 };
-    }
-    if l <= len - a {
-        return Span { at: at + a, len: l };
-    }
-    Span {
-        at: at + a,
-        len: len - a,
-    }
-}
-
-// The span in m of the text of sp less its first n octets.
-pub fn skip(m: &[u8], sp: Span, n: usize) -> Span
-    ensures { λ r. ⌜ textOf (now (m .entry)) r ≡ drop n (textOf (now (m .entry)) sp) ⌝ }
-{
-    let len = sp.len;
-    inner(m, sp, Span { at: n, len: len })
-}
-
 // What of s stands behind its first n octets.
 pub fn after(s: &[u8], n: usize) -> &[u8]
     ensures { λ r. ⌜ now r ≡ drop n (now (s .entry)) ⌝ }

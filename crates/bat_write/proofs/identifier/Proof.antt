@@ -1,4 +1,4 @@
--- The proof of `identifier`. Each arm is a case of the definition.
+-- `identifier` meets its contract. Each arm is a case of the definition.
 -- Assumes nothing.
 use borrow.Author.Needs.{needs}
 use Rattle.octets.proofs.Pick.{picks}

@@ -1,4 +1,4 @@
--- The proof of `write_element`. The scratch holds the contents, or enough of them to show that the element is too long.
+-- `write_element` meets its contract. The scratch holds the contents, or enough of them to show that the element is too long.
 -- Assumes nothing.
 use borrow.Author.Needs.{needs}
 use Rattle.octets.proofs.Pick.{flags}

@@ -1,4 +1,4 @@
--- The proof of `feed`. Each turn keeps the buffers' lengths and goes on in the part.
+-- `feed` meets its contract. Each turn keeps the buffers' lengths and goes on in the part.
 -- Assumes nothing.
 use mathlib.Core.Path.{_≡_}
 use lib.ListN.{length}

@@ -1,4 +1,4 @@
--- The proof of `run`. Each turn keeps the buffers' lengths and counts down.
+-- `run` meets its contract. Each turn keeps the buffers' lengths and counts down.
 -- Assumes nothing.
 use mathlib.Core.Path.{_≡_}
 use lib.ListN.{length}

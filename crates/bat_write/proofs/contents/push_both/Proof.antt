@@ -1,4 +1,4 @@
--- The proof of `contents::push_both`. The second text is appended behind the first.
+-- `contents::push_both` meets its contract. The second text is appended behind the first.
 -- Assumes nothing.
 use borrow.Author.Needs.{needs}
 use Rattle.octets.proofs.AppendLaws.{append-then}

@@ -1,4 +1,4 @@
--- The proof of `contents::push_codec`. The text of the span is appended behind the organisation.
+-- `contents::push_codec` meets its contract. The text of the span is appended behind the organisation.
 -- Assumes nothing.
 use borrow.Author.Needs.{needs}
 use Rattle.bat_write.proofs.ContentsLaws.{octet-text}

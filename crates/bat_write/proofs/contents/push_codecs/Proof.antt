@@ -1,4 +1,4 @@
--- The proof of `contents::push_codecs`. Whatever goes on from the buffer with the elements that are left ends as all of them appended to the first buffer; each turn appends one.
+-- `contents::push_codecs` meets its contract. Whatever goes on from the buffer with the elements that are left ends as all of them appended to the first buffer; each turn appends one.
 -- Assumes nothing.
 use Prim.Native.Nat.{ℕ, _-_, _≤_}
 use mathlib.Core.Path.{_≡_}

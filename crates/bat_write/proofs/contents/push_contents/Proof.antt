@@ -1,4 +1,4 @@
--- The proof of `contents::push_contents`. What each arm appends is the contents of the value that its match names.
+-- `contents::push_contents` meets its contract. What each arm appends is the contents of the value that its match names.
 -- Assumes nothing.
 use borrow.Author.Needs.{needs}
 use Rattle.bat.specs.Meaning.{valueIn}

@@ -1,4 +1,4 @@
--- The proof of `contents::push_report`. Octets in threes that are each below 256 are the text of the diagnostics that they stand for.
+-- `contents::push_report` meets its contract. Octets in threes that are each below 256 are the text of the diagnostics that they stand for.
 -- Assumes nothing.
 use borrow.Author.Needs.{needs}
 use Rattle.bat_write.proofs.DiagnosticLaws.{report-then}

@@ -1,4 +1,4 @@
--- The proof of `contents::push_signal`. The duration is appended behind the element of the type.
+-- `contents::push_signal` meets its contract. The duration is appended behind the element of the type.
 -- Assumes nothing.
 use borrow.Author.Needs.{needs}
 use Rattle.bat_write.proofs.ContentsLaws.{signal-then}

@@ -1,4 +1,4 @@
--- The proof of `contents::push_unit`. Both ids are appended behind the length.
+-- `contents::push_unit` meets its contract. Both ids are appended behind the length.
 -- Assumes nothing.
 use borrow.Author.Needs.{needs}
 use Rattle.octets.proofs.AppendLaws.{octet-then}

@@ -1,4 +1,4 @@
--- The proof of `element::push_counted`. The contents are appended behind the compatibility octet.
+-- `element::push_counted` meets its contract. The contents are appended behind the compatibility octet.
 -- Assumes nothing.
 use borrow.Author.Needs.{needs}
 use Rattle.octets.proofs.AppendLaws.{octet-then}

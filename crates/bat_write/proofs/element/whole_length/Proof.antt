@@ -1,4 +1,4 @@
--- The proof of `element::whole_length`. Each way the test goes is a case of the definition.
+-- `element::whole_length` meets its contract. Each way the test goes is a case of the definition.
 -- Assumes nothing.
 use borrow.Author.Needs.{needs}
 use Rattle.octets.proofs.Pick.{picks}

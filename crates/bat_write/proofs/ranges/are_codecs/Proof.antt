@@ -1,4 +1,4 @@
--- The proof of `ranges::are_codecs`. Octets that are not empty and have no offence are one codec or more, each right.
+-- `ranges::are_codecs` meets its contract. Octets that are not empty and have no offence are one codec or more, each right.
 -- Assumes nothing.
 use borrow.Author.Needs.{needs}
 use Rattle.bat_write.proofs.CodecLaws.{codecs-none, codecs-offence, codecs-all}

@@ -1,4 +1,4 @@
--- The proof of `ranges::are_unit`. Each way the test goes is a case of the definition.
+-- `ranges::are_unit` meets its contract. Each way the test goes is a case of the definition.
 -- Assumes nothing.
 use borrow.Author.Needs.{needs}
 use Rattle.octets.proofs.Pick.{picks}

@@ -1,4 +1,4 @@
--- The proof of `ranges::in_range`. What each arm tests is the range of the value that its match names.
+-- `ranges::in_range` meets its contract. What each arm tests is the range of the value that its match names.
 -- Assumes nothing.
 use borrow.Author.Needs.{needs}
 use Rattle.bat.specs.Meaning.{valueIn}

@@ -1,4 +1,4 @@
--- The proof of `ranges::is_codec`. The test of the text of the span is a test of what the codec stands for.
+-- `ranges::is_codec` meets its contract. The test of the text of the span is a test of what the codec stands for.
 -- Assumes nothing.
 use borrow.Author.Needs.{needs}
 use Rattle.bat_write.proofs.ranges.is_codec.Statement.{statement}

@@ -1,4 +1,4 @@
--- The proof of `elements::push_elements`. Each turn keeps the buffer's length and goes on in the data.
+-- `elements::push_elements` meets its contract. Each turn keeps the buffer's length and goes on in the data.
 -- Assumes nothing.
 use mathlib.Core.Path.{_≡_}
 use lib.ListN.{length}

@@ -1,4 +1,4 @@
--- The proof of `values::push_diagnostics`. Each turn keeps the buffer's length and goes on by three octets.
+-- `values::push_diagnostics` meets its contract. Each turn keeps the buffer's length and goes on by three octets.
 -- Assumes nothing.
 use mathlib.Core.Path.{_≡_}
 use lib.ListN.{length}

@@ -1,4 +1,4 @@
--- The proof of `values::push_list`. Each turn keeps the buffer's length and goes on in the contents.
+-- `values::push_list` meets its contract. Each turn keeps the buffer's length and goes on in the contents.
 -- Assumes nothing.
 use mathlib.Core.Path.{_≡_}
 use lib.ListN.{length}

@@ -1,4 +1,4 @@
--- The proof of `append::push`. Appending what is left gives the same answer and the same buffer at each turn.
+-- `append::push` meets its contract. Appending what is left gives the same answer and the same buffer at each turn.
 -- Assumes nothing.
 use Prim.Native.Nat.{_-_}
 use mathlib.Core.Path.{_≡_}

@@ -1,4 +1,4 @@
--- The proof of `append::push_number`. The front of the array is the digits of the number, and that front is appended.
+-- `append::push_number` meets its contract. The front of the array is the digits of the number, and that front is appended.
 -- Assumes nothing.
 use borrow.Author.Needs.{needs}
 use Rattle.octets.proofs.AppendLaws.{number-pushed}

@@ -1,4 +1,4 @@
--- The proof of `append::push_number_then`. The octet is appended behind the number.
+-- `append::push_number_then` meets its contract. The octet is appended behind the number.
 -- Assumes nothing.
 use borrow.Author.Needs.{needs}
 use Rattle.octets.proofs.AppendLaws.{append-then}

@@ -1,4 +1,4 @@
--- The proof of `append::push_octet`. There is room for one octet, or none.
+-- `append::push_octet` meets its contract. There is room for one octet, or none.
 -- Assumes nothing.
 use borrow.Author.Needs.{needs}
 use Rattle.octets.proofs.AppendLaws.{octet-yes, octet-no}

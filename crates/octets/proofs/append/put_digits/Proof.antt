@@ -1,4 +1,4 @@
--- The proof of `append::put_digits`. Putting the digits that are left gives the same buffer at each turn.
+-- `append::put_digits` meets its contract. Putting the digits that are left gives the same buffer at each turn.
 -- Assumes nothing.
 use Prim.Native.Nat.{_+_, _≤_}
 use mathlib.Core.Path.{_≡_}

@@ -1,4 +1,4 @@
--- The proof of `append::width`. The digits counted and those of what is left are all of them at each turn.
+-- `append::width` meets its contract. The digits counted and those of what is left are all of them at each turn.
 -- Assumes nothing.
 use Prim.Native.Nat.{_+_, _-_, _≤_}
 use mathlib.Core.Path.{_≡_}

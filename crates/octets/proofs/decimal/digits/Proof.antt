@@ -1,4 +1,4 @@
--- The proof of `decimal::digits`. The number so far and the digits that are left give the same answer at each turn.
+-- `decimal::digits` meets its contract. The number so far and the digits that are left give the same answer at each turn.
 -- Assumes nothing.
 use Prim.Native.Nat.{_-_, _≤_}
 use mathlib.Core.Path.{_≡_}

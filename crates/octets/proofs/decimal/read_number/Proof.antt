@@ -1,4 +1,4 @@
--- The proof of `decimal::read_number`. The tests of the code are those of `shortest`, and the digits give the number.
+-- `decimal::read_number` meets its contract. The tests of the code are those of `shortest`, and the digits give the number.
 -- Assumes nothing.
 use borrow.Author.Needs.{needs}
 use Rattle.octets.proofs.DecimalLaws.{reading}

@@ -1,4 +1,4 @@
--- The proof of `hex::all_hex`. The octets passed over are digits, so those that are left decide at each turn.
+-- `hex::all_hex` meets its contract. The octets passed over are digits, so those that are left decide at each turn.
 -- Assumes nothing.
 use Prim.Native.Nat.{_-_}
 use mathlib.Core.Path.{_≡_}

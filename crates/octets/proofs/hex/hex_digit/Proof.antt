@@ -1,4 +1,4 @@
--- The proof of `hex::hex_digit`. The test of the code is that of the definition.
+-- `hex::hex_digit` meets its contract. The test of the code is that of the definition.
 -- Assumes nothing.
 use borrow.Author.Needs.{needs}
 use Rattle.octets.specs.Hex.{hexDigit}

@@ -1,4 +1,4 @@
--- The proof of `hex::hex_value`. The tests of the code are those of the definition.
+-- `hex::hex_value` meets its contract. The tests of the code are those of the definition.
 -- Assumes nothing.
 use borrow.Author.Needs.{needs}
 use Rattle.octets.specs.Hex.{hexValue}

@@ -1,4 +1,4 @@
--- The proof of `hex::is_hex`. The tests of the code are those of the definition.
+-- `hex::is_hex` meets its contract. The tests of the code are those of the definition.
 -- Assumes nothing.
 use borrow.Author.Needs.{needs}
 use Rattle.octets.specs.Hex.{isHex}

@@ -1,4 +1,4 @@
--- The proof of `hex::is_hex_digit`. The tests of the code are those of the definition.
+-- `hex::is_hex_digit` meets its contract. The tests of the code are those of the definition.
 -- Assumes nothing.
 use borrow.Author.Needs.{needs}
 use Rattle.octets.specs.Hex.{isHexDigit}

@@ -1,4 +1,4 @@
--- The proof of `hex::push_hex`. The digits of the octets passed over are appended, and each turn appends those of one more.
+-- `hex::push_hex` meets its contract. The digits of the octets passed over are appended, and each turn appends those of one more.
 -- Assumes nothing.
 use Prim.Native.Nat.{_-_}
 use mathlib.Core.Path.{_≡_}

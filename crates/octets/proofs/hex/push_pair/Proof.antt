@@ -1,4 +1,4 @@
--- The proof of `hex::push_pair`. The low digit is appended behind the high one.
+-- `hex::push_pair` meets its contract. The low digit is appended behind the high one.
 -- Assumes nothing.
 use borrow.Author.Needs.{needs}
 use Rattle.octets.proofs.HexLaws.{hex-pair}

@@ -1,4 +1,4 @@
--- The proof of `hex::put_unhex`. Putting the octets of the digits that are left gives the same buffer at each turn.
+-- `hex::put_unhex` meets its contract. Putting the octets of the digits that are left gives the same buffer at each turn.
 -- Assumes nothing.
 use Prim.Native.Nat.{_+_, _-_, _/_, _≤_}
 use mathlib.Core.Path.{_≡_}

@@ -1,4 +1,4 @@
--- The proof of `hex::unhex`. The room is tested for as many octets as there are pairs of digits.
+-- `hex::unhex` meets its contract. The room is tested for as many octets as there are pairs of digits.
 -- Assumes nothing.
 use borrow.Author.Needs.{needs}
 use Rattle.octets.proofs.Laws.{no-room, no-room-at, did-put}

@@ -1,4 +1,4 @@
--- The proof of `parts::find_from`. Each turn leaves `findAt` of the position as it is, and the octet there, or the end, says what it is.
+-- `parts::find_from` meets its contract. Each turn leaves `findAt` of the position as it is, and the octet there, or the end, says what it is.
 -- Assumes nothing.
 use Prim.Native.Nat.{_-_}
 use mathlib.Core.Path.{_≡_}

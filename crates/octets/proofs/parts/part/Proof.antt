@@ -1,4 +1,4 @@
--- The proof of `parts::part`. Each turn passes one part over, so the part that is left to find stays the same.
+-- `parts::part` meets its contract. Each turn passes one part over, so the part that is left to find stays the same.
 -- Assumes nothing.
 use Prim.Native.Nat.{_≤_}
 use mathlib.Core.Path.{_≡_}

@@ -1,4 +1,4 @@
--- The proof of `parts::separators`. The separators counted and those that are left are all of them at each turn.
+-- `parts::separators` meets its contract. The separators counted and those that are left are all of them at each turn.
 -- Assumes nothing.
 use Prim.Native.Nat.{_+_, _-_, _≤_}
 use mathlib.Core.Path.{_≡_}

@@ -1,4 +1,4 @@
--- The proof of `spans::text`. The tests of the code say where the end of the slice cuts the span.
+-- `spans::text` meets its contract. The tests of the code say where the end of the slice cuts the span.
 -- Assumes nothing.
 use borrow.Author.Needs.{needs}
 use Rattle.octets.proofs.SpanLaws.{texts}

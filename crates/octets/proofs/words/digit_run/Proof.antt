@@ -1,4 +1,4 @@
--- The proof of `words::digit_run`. The tests of the code are those of the definition.
+-- `words::digit_run` meets its contract. The tests of the code are those of the definition.
 -- Assumes nothing.
 use borrow.Author.Needs.{needs}
 use Rattle.octets.specs.Words.{digitRun}

@@ -1,4 +1,4 @@
--- The proof of `words::equals`. The tests of the code are those of the definition.
+-- `words::equals` meets its contract. The tests of the code are those of the definition.
 -- Assumes nothing.
 use borrow.Author.Needs.{needs}
 use Rattle.octets.specs.Words.{same}

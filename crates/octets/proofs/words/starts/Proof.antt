@@ -1,4 +1,4 @@
--- The proof of `words::starts`. The octets passed over are the same, so those that are left decide at each turn.
+-- `words::starts` meets its contract. The octets passed over are the same, so those that are left decide at each turn.
 -- Assumes nothing.
 use Prim.Native.Nat.{_-_}
 use mathlib.Core.Path.{_≡_}
