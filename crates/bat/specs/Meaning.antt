@@ -98,24 +98,24 @@ unfoldable pub lastingIn : Timed → Lasting
 lastingIn Untimed = untimed
 lastingIn (LastingFor c n) = lasting (meant c) n
 
--- What a value stands for: a span, the octets of s that are in it. Nothing where a span that should stand for
+-- What a value stands for, by the octets of s that are in its spans. Nothing where a span that should stand for
 -- codecs or diagnostics does not.
-unfoldable pub valueIn : List ℕ → ValuePlace → Option Value
-valueIn s (Action n) = some (action n)
-valueIn s (Backbone p) = some (backbone (textOf s p))
-valueIn s (Address p) = some (address (textOf s p))
-valueIn s (CodecsPlace p) = onCodecs (codecsIn (textOf s p)) (λ cs. some (codecs cs)) (λ d. none)
-valueIn s (Single c) = some (single (codecIn s c))
-valueIn s (Report r p) = Option·map (report r) (diagnosticsIn (textOf s p))
-valueIn s (Characteristics n) = some (characteristics n)
-valueIn s (Control p) = some (control (textOf s p))
-valueIn s (Tunnelling b) = some (tunnelling b)
-valueIn s (UnitPlace n l) = some (controlUnit (textOf s n) (textOf s l))
-valueIn s (Signal k t) = some (signal (kindIn k) (lastingIn t))
-valueIn s (Capability b) = some (capability b)
-valueIn s (Indicators p) = some (indicators (textOf s p))
-valueIn s (SignalType n) = some (signalType n)
-valueIn s (Duration n) = some (duration n)
+unfoldable pub valueBy : List ℕ → ValuePlace → Option Value
+valueBy s (Action n) = some (action n)
+valueBy s (Backbone p) = some (backbone (textOf s p))
+valueBy s (Address p) = some (address (textOf s p))
+valueBy s (CodecsPlace p) = onCodecs (codecsIn (textOf s p)) (λ cs. some (codecs cs)) (λ d. none)
+valueBy s (Single c) = some (single (codecIn s c))
+valueBy s (Report r p) = Option·map (report r) (diagnosticsIn (textOf s p))
+valueBy s (Characteristics n) = some (characteristics n)
+valueBy s (Control p) = some (control (textOf s p))
+valueBy s (Tunnelling b) = some (tunnelling b)
+valueBy s (UnitPlace n l) = some (controlUnit (textOf s n) (textOf s l))
+valueBy s (Signal k t) = some (signal (kindIn k) (lastingIn t))
+valueBy s (Capability b) = some (capability b)
+valueBy s (Indicators p) = some (indicators (textOf s p))
+valueBy s (SignalType n) = some (signalType n)
+valueBy s (Duration n) = some (duration n)
 
 -- a span does not go past the end of s
 abbrev pub inside : List ℕ → Span → Bool
@@ -138,12 +138,12 @@ allInside s (Indicators p) = inside s p
 allInside s (SignalType n) = true
 allInside s (Duration n) = true
 
--- What a value that is answered stands for: nothing where a span of it goes past the end.
-unfoldable pub answeredIn : List ℕ → ValuePlace → Option Value
-answeredIn s v = cond (allInside s v) (valueIn s v) none
+-- What a value stands for, whose spans lie inside s: nothing where one goes past the end.
+unfoldable pub valueIn : List ℕ → ValuePlace → Option Value
+valueIn s v = cond (allInside s v) (valueBy s v) none
 
 unfoldable pub readingIn : List ℕ → ReadingPlace → Option Reading
-readingIn s (Decoded v) = Option·map decoded (answeredIn s v)
+readingIn s (Decoded v) = Option·map decoded (valueIn s v)
 readingIn s (Unrecognised p) = some (unrecognised p)
 
 -- ---- judgements
@@ -162,7 +162,7 @@ judgementIn j = record { outcome = outcomeNumber (j .outcome); notice = j .notic
 
 -- s are the contents of the element
 unfoldable pub verdictIn : List ℕ → VerdictPlace → Option Verdict
-verdictIn s (Recognised v) = Option·map known (answeredIn s v)
+verdictIn s (Recognised v) = Option·map known (valueIn s v)
 verdictIn s (Unknown j) = some (unknown (judgementIn j))
 
 -- the number by which `dataOutcome` says what is made of the data

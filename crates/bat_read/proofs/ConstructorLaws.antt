@@ -22,7 +22,7 @@ use Rattle.bat.specs.declared.Reading.{Reading as ReadingPlace}
 use Rattle.bat.specs.declared.Reading.the-variants.{Decoded, Unrecognised}
 use Rattle.bat.specs.Framing.{octet, whole, front, onFront, walk}
 use Rattle.bat.specs.Values.{ListedCodec, codecs, signal, lasting, meant, decoded, unrecognised, Codecs, allCodecs, offence, withCodec, onCodecs, rightCodec, codecOf, isSingle, listedCodec, codecThen, codecsIn, codecListIn, kindOf, lastingOf, wordOf, rightType, isType, isDuration, lastBy, timedBy, signalBy, signalIn}
-use Rattle.bat.specs.Meaning.{wholeOf, elementIn, frontIn, WholeLength, kindIn, lastingIn, allInside, answeredIn, valueIn, readingIn}
+use Rattle.bat.specs.Meaning.{wholeOf, elementIn, frontIn, WholeLength, kindIn, lastingIn, allInside, valueIn, valueBy, readingIn}
 use Rattle.bat.proofs.WalkLaws.{front-nil, walk-ended, walk-unframed, walk-first}
 use Rattle.bat.proofs.CountLaws.{frame-ended, frame-unframed, frame-is, frame-first, frame-length}
 use Rattle.bat_read.specs.declared.Offence.{Offence}
@@ -141,7 +141,7 @@ module _ (s : List ℕ) where
         go (offence k) q = let z : k ≡ d = cc in rw z
 
     pub list-codecs : (p : Span) → Stands s s p → y ≡ Nowhere → readingIn s (Decoded (CodecsPlace p)) ≡ some (codecListIn s)
-    unfolding readingIn answeredIn allInside valueIn offenceOf onCodecs
+    unfolding readingIn valueIn allInside valueBy offenceOf onCodecs
     list-codecs p a e = rw (a .within, a .is) (go (codecsIn s) (sym is ∙ e)) ∙ sym list-by
       where
         go : (x : Codecs) → offenceOf x ≡ Nowhere → Option·map decoded (onCodecs x (λ cs. some (codecs cs)) (λ d. none)) ≡ some (onCodecs x (λ cs. decoded (codecs cs)) (λ d. unrecognised (Inner d)))
@@ -173,7 +173,7 @@ module _ (k : Typed) (d : ℕ) (s : List ℕ) (f : Frame) (b : Bool) (is : b ≡
 
     pub last-whole : length s ≤ w → (c : List ℕ) → c ≡ elementIn s f .contents → (n : ℕ) → n ≡ wordOf c
         → readingIn m (Decoded (Signal k (Lasting (f .compatibility) n))) ≡ some (lastBy (kindIn k) d (elementIn s f) (drop (wholeOf f) s))
-    unfolding readingIn answeredIn allInside valueIn lastingIn lastBy
+    unfolding readingIn valueIn allInside valueBy lastingIn lastBy
     last-whole h c e n p =
         let z : length (drop (wholeOf f) s) ≡ 0 = omega (arith, length-drop (wholeOf f) s, l .is) in
         let q : n ≡ wordOf (elementIn s f .contents) = p ∙ rw e in
@@ -184,7 +184,7 @@ pub ruleset lasts = (last-no, last-more, last-whole)
 -- behind the 14 stands s
 module _ (k : Typed) (d : ℕ) (s : List ℕ) (x : Framed) (is : frontIn s x ≡ some (front s)) (m : List ℕ) where
   pub timed-ended : x ≡ Ended → readingIn m (Decoded (Signal k Untimed)) ≡ some (timedBy (kindIn k) d s)
-  unfolding readingIn answeredIn allInside valueIn lastingIn timedBy onFront
+  unfolding readingIn valueIn allInside valueBy lastingIn timedBy onFront
   timed-ended e = rw (frame-ended s x is e)
 
   pub timed-unframed : x ≡ Unframed → readingIn m (Unrecognised (Inner d)) ≡ some (timedBy (kindIn k) d s)

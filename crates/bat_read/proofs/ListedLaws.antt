@@ -19,7 +19,7 @@ use Rattle.bat.specs.declared.Verdict.the-variants.{Recognised, Unknown}
 use Rattle.bat.specs.Framing.{Element, whole, front, first, unframed, ended, elements}
 use Rattle.bat.specs.Values.{Diagnostic, Value}
 use Rattle.bat.specs.Judging.{Verdict, known, unknown, verdict, isListed, listedWith, listed}
-use Rattle.bat.specs.Meaning.{elementIn, WholeLength, answeredIn, diagnosticIn, judgementIn, verdictIn}
+use Rattle.bat.specs.Meaning.{elementIn, WholeLength, valueIn, diagnosticIn, judgementIn, verdictIn}
 use Rattle.bat.proofs.WalkLaws.{front-nil, walk-ended, walk-unframed, walk-first, by-front}
 use Rattle.bat.proofs.CountLaws.{frame-length}
 use Rattle.bat.proofs.DataLaws.{elements-ended, elements-unframed, elements-first}
@@ -61,7 +61,7 @@ own-judged j n ls = refl
 
 own-is : (s : List ℕ) (v : VerdictPlace) (w : Verdict) (n : ℕ) (ls : List Listing) → verdictIn s v ≡ some w → ownOf v n ls ≡ listingWith w n ls
 unfolding verdictIn ownOf
-own-is s (Recognised x) w n ls p = own-value (answeredIn s x) w n ls p
+own-is s (Recognised x) w n ls p = own-value (valueIn s x) w n ls p
 own-is s (Unknown j) w n ls p = let q : unknown (judgementIn j) ≡ w = cc in rw (← q) (own-judged j n ls)
 
 -- ---- from one element of the data to the next

@@ -27,7 +27,7 @@ use Rattle.bat.specs.declared.DataAnswer.the-variants.{Refused as RefusedData, 
 use Rattle.bat.specs.Framing.{Element, Front, front, first, unframed, ended, onFront, elements, Cut, refused, taken, mostOctets, roomFor, cut}
 use Rattle.bat.specs.Values.{Value}
 use Rattle.bat.specs.Judging.{Verdict, known, unknown, verdict, says, someSays, dataOutcome, judgedBy, judgedData}
-use Rattle.bat.specs.Meaning.{wholeOf, elementIn, frontIn, WholeLength, answeredIn, outcomeNumber, judgementIn, verdictIn, dataNumber, toldBy, toldOf, countOf}
+use Rattle.bat.specs.Meaning.{wholeOf, elementIn, frontIn, WholeLength, valueIn, outcomeNumber, judgementIn, verdictIn, dataNumber, toldBy, toldOf, countOf}
 use Rattle.bat.proofs.WalkLaws.{front-nil, fold-ended, fold-unframed, fold-first, by-front}
 use Rattle.bat.proofs.DataLaws.{elements-ended, elements-unframed, elements-first}
 use Rattle.bat.proofs.CountLaws.{place-fits, place-falls}
@@ -72,7 +72,7 @@ unknown-asks j = refl
 
 asked-is : (s : List ℕ) (v : VerdictPlace) (w : Verdict) → verdictIn s v ≡ some w → askedIn v ≡ askedBy w
 unfolding verdictIn askedIn
-asked-is s (Recognised x) w p = known-asks (answeredIn s x) w p
+asked-is s (Recognised x) w p = known-asks (valueIn s x) w p
 asked-is s (Unknown j) w p = let q : unknown (judgementIn j) ≡ w = cc in rw (← q) (unknown-asks j)
 
 -- ---- the graver of two

@@ -16,7 +16,7 @@ use Rattle.bat.specs.declared.Place.the-variants.{Itself}
 use Rattle.bat.specs.declared.Reading.the-variants.{Decoded, Unrecognised}
 use Rattle.bat.specs.Framing.{octet, unmarked}
 use Rattle.bat.specs.Values.{Diagnostic, report, decoded, wrong, bit1, diagnosticsIn, reportIn, unitIn, capabilityIn}
-use Rattle.bat.specs.Meaning.{allInside, answeredIn, valueIn, readingIn}
+use Rattle.bat.specs.Meaning.{allInside, valueIn, valueBy, readingIn}
 use Rattle.bat_read.specs.Steps.{Stands}
 
 -- ---- spans
@@ -64,7 +64,7 @@ report-odd (r ∷ s) h k = rw (diagnostics-odd s (λ e. k (omega arith)))
 
 pub report-whole : (s : List ℕ) (p : Span) → 1 ≤ length s → (length s - 1) % 3 ≡ 0 → Stands s (drop 1 s) p
     → readingIn s (Decoded (Report (getD s 0 0) p)) ≡ some (reportIn s)
-unfolding readingIn answeredIn allInside valueIn reportIn Option·elim
+unfolding readingIn valueIn allInside valueBy reportIn Option·elim
 report-whole [] p h k e = absurd (omega arith)
 report-whole (r ∷ s) p h k e = rw (e .within, e .is) (go (diagnosticsIn s) refl)
   where
@@ -85,7 +85,7 @@ unit-short (b ∷ s) n e h k = simp (le-ltb b (length s) (omega arith))
 
 pub unit-whole : (s : List ℕ) (n : ℕ) (p : Span) → n ≡ octet 0 s → 1 ≤ length s → n < length s - 1 → Stands s (drop (1 + n) s) p
     → readingIn s (Decoded (Unit (record { at = 1; len = n }) p)) ≡ some (unitIn s)
-unfolding readingIn answeredIn allInside valueIn unitIn textOf
+unfolding readingIn valueIn allInside valueBy unitIn textOf
 unit-whole [] n p i h k e = absurd (omega arith)
 unit-whole (b ∷ s) n p i h k e =
     let l : 1 + n ≡ suc n = omega arith in
@@ -103,7 +103,7 @@ module _ (s : List ℕ) where
     capability-no h = simp (ne-eqb (suc (unmarked s)) (length s) (λ e. h (omega arith)))
 
     pub capability-yes : x ≡ length s - 1 → readingIn s (Decoded (Capability (bit1 (getD s 0 0)))) ≡ some (capabilityIn s)
-    unfolding readingIn answeredIn allInside valueIn capabilityIn
+    unfolding readingIn valueIn allInside valueBy capabilityIn
     capability-yes h = simp (eq-eqb (suc (unmarked s)) (length s) (omega arith))
 
 pub ruleset behinds = (behind-none, behind-some)

@@ -24,7 +24,7 @@ use Rattle.bat.specs.declared.Verdict.the-variants.{Recognised, Unknown}
 use Rattle.bat.specs.Framing.{head, front, first, onFront}
 use Rattle.bat.specs.Values.{Value, Reading, decoded, unrecognised, reading}
 use Rattle.bat.specs.Judging.{indexBy, judgement, known, unknown, verdictBy, verdict}
-use Rattle.bat.specs.Meaning.{headOf, wholeOf, elementIn, frontIn, HeadLength, answeredIn, readingIn, judgementIn, verdictIn}
+use Rattle.bat.specs.Meaning.{headOf, wholeOf, elementIn, frontIn, HeadLength, valueIn, readingIn, judgementIn, verdictIn}
 use Rattle.bat.proofs.WalkLaws.{front-size, size-small}
 use Rattle.bat.proofs.CountLaws.{frame-is, frame-fits, frame-ended, frame-unframed}
 use Rattle.bat_read.specs.declared.Examined.the-variants.{Element as ElementAt, Unframed as NoFrame, Ended as NoMore}
@@ -105,7 +105,7 @@ module _ (s : List ℕ) (f : Frame) (here : frontIn s (Whole f) ≡ some (front 
 
   pub verdict-known : (v : ValuePlace) → x ≡ Decoded v → (pass : Bool) → verdictIn (elementIn s f .contents) (Recognised v) ≡ some (verdict pass (elementIn s f))
   unfolding verdictIn readingIn
-  verdict-known v e pass = ap (λ (l : List ℕ). Option·map known (answeredIn l v)) (sym is) ∙ known-by (answeredIn c v) pass (read-is (Decoded v) e)
+  verdict-known v e pass = ap (λ (l : List ℕ). Option·map known (valueIn l v)) (sym is) ∙ known-by (valueIn c v) pass (read-is (Decoded v) e)
 
   judgement-is : (pass : Bool) (p : Place) → verdictBy pass (elementIn s f) (unrecognised p) ≡ unknown (judgement pass (f .identifier) (f .compatibility) (indexBy (headOf f) p))
   unfolding verdictBy

@@ -20,7 +20,7 @@ use Rattle.bat.specs.declared.Put.the-variants.{Octets, Refused as RefusedPut}
 use Rattle.bat.specs.Framing.{mostOctets, Element, whole, front, first}
 use Rattle.bat.specs.Values.{Diagnostic, Value, report, decoded, reading, meant, diagnosticsIn, Codecs, allCodecs, offence, onCodecs, codecsIn}
 use Rattle.bat.specs.Writing.{inRange, valueText, octetsOf, octetsIn, putAnswer, putLeaves, Puts}
-use Rattle.bat.specs.Meaning.{lastingIn, valueIn}
+use Rattle.bat.specs.Meaning.{lastingIn, valueBy, allInside, valueIn}
 use Rattle.bat.proofs.RoundTrip.{and-both, settledLasting, settled, read-written}
 use Rattle.bat_write.specs.Texts.{listOf}
 use Rattle.bat_write.proofs.CodecLaws.{listed}
@@ -44,8 +44,8 @@ unfolding lastingIn settledLasting
 lasting-settled Untimed = refl
 lasting-settled (LastingFor c n) = meant-small c
 
-settled-in : (s : List ℕ) (v : ValuePlace) → Option·elim (valueIn s v) true settled ≡ true
-unfolding valueIn Option·elim settled
+settled-in : (s : List ℕ) (v : ValuePlace) → Option·elim (valueBy s v) true settled ≡ true
+unfolding valueBy Option·elim settled
 settled-in s (Action n) = refl
 settled-in s (Backbone p) = refl
 settled-in s (Address p) = refl
@@ -61,6 +61,10 @@ settled-in s (Capability b) = refl
 settled-in s (Indicators p) = refl
 settled-in s (SignalType n) = refl
 settled-in s (Duration n) = refl
+
+settled-inside : (s : List ℕ) (v : ValuePlace) → Option·elim (valueIn s v) true settled ≡ true
+unfolding valueIn Option·elim
+settled-inside s v = by-bool (allInside s v) _ (λ b. rw b (settled-in s v)) (λ b. rw b)
 
 -- ---- what an answer of n octets says
 puts-no : (l : List ℕ) (n : ℕ) (f : List ℕ) → Puts none l (Octets n) f → ⊥
@@ -115,4 +119,4 @@ module _ (s : List ℕ) (v : ValuePlace) (c : ℕ) (l : List ℕ) (n : ℕ) (f :
       (λ h. absurd (puts-no l n f (rw h at p)))
 
   pub written-back : Puts (octetsIn (meant c) (valueIn s v)) l (Octets n) f → WrittenBack s v c n f
-  written-back p = back-of (valueIn s v) refl (settled-in s v) p
+  written-back p = back-of (valueIn s v) refl (settled-inside s v) p

@@ -21,7 +21,7 @@ use Rattle.bat.specs.declared.Value.{Value as ValuePlace}
 use Rattle.bat.specs.declared.Value.the-variants.{Codecs as CodecsPlace, Report, Unit as UnitPlace, Capability}
 use Rattle.bat.specs.Values.{signal, meant}
 use Rattle.bat.specs.Writing.{elementText, wordText, lastingText, bitText, contentsText, inRange}
-use Rattle.bat.specs.Meaning.{kindIn, lastingIn, valueIn}
+use Rattle.bat.specs.Meaning.{kindIn, lastingIn, valueBy}
 use Rattle.bat.proofs.RoundTrip.{and-both}
 use Rattle.bat_write.specs.Texts.{codecsOf, reportOf, inRangeIn, contentsIn, codecsAnew}
 use Rattle.bat_write.proofs.CodecLaws.{codecs-text}
@@ -47,39 +47,39 @@ module _ (l f : List ℕ) (at r : ℕ) where
 -- ---- a value v whose spans are places in s
 module _ (s l f : List ℕ) (at r : ℕ) (v : ValuePlace) where
   -- t is what is written for w, which v is
-  pub stands : (w : ValuePlace) (t : List ℕ) → v ≡ w → Appends l at t r f → t ≡ contentsIn (valueIn s w) → Appends l at (contentsIn (valueIn s v)) r f
+  pub stands : (w : ValuePlace) (t : List ℕ) → v ≡ w → Appends l at t r f → t ≡ contentsIn (valueBy s w) → Appends l at (contentsIn (valueBy s v)) r f
   stands w t e p q = rw (e, ← q) p
 
-  pub stands-codecs : (p : Span) (t : List ℕ) → inRangeIn (valueIn s v) ≡ true → v ≡ CodecsPlace p → t ≡ textOf s p → Appends l at (codecsAnew t) r f
-      → Appends l at (contentsIn (valueIn s v)) r f
-  unfolding valueIn
+  pub stands-codecs : (p : Span) (t : List ℕ) → inRangeIn (valueBy s v) ≡ true → v ≡ CodecsPlace p → t ≡ textOf s p → Appends l at (codecsAnew t) r f
+      → Appends l at (contentsIn (valueBy s v)) r f
+  unfolding valueBy
   stands-codecs p t h e q a =
       let i : inRangeIn (codecsOf (textOf s p)) ≡ true = rw e at h in
       let z : Appends l at (codecsAnew (textOf s p)) r f = rw q at a in
       rw e (rw (codecs-text (textOf s p) i) at z)
 
-  pub stands-report : (n : ℕ) (p : Span) (t : List ℕ) → v ≡ Report n p → t ≡ textOf s p → Appends l at (contentsIn (reportOf n t)) r f → Appends l at (contentsIn (valueIn s v)) r f
-  unfolding valueIn
+  pub stands-report : (n : ℕ) (p : Span) (t : List ℕ) → v ≡ Report n p → t ≡ textOf s p → Appends l at (contentsIn (reportOf n t)) r f → Appends l at (contentsIn (valueBy s v)) r f
+  unfolding valueBy
   stands-report n p t e q a = rw e (rw q at a)
 
-  pub stands-unit : (n p : Span) (t u : List ℕ) → v ≡ UnitPlace n p → t ≡ textOf s n → u ≡ textOf s p → Appends l at (length t ∷ (t ++ u)) r f → Appends l at (contentsIn (valueIn s v)) r f
-  unfolding valueIn contentsIn contentsText
+  pub stands-unit : (n p : Span) (t u : List ℕ) → v ≡ UnitPlace n p → t ≡ textOf s n → u ≡ textOf s p → Appends l at (length t ∷ (t ++ u)) r f → Appends l at (contentsIn (valueBy s v)) r f
+  unfolding valueBy contentsIn contentsText
   stands-unit n p t u e q o a = rw e (rw (q, o) at a)
 
-  pub stands-capability : (b : Bool) (k : ℕ) → v ≡ Capability b → k ≡ bitText b → Appends l at ((128 + k) ∷ []) r f → Appends l at (contentsIn (valueIn s v)) r f
-  unfolding valueIn contentsIn contentsText
+  pub stands-capability : (b : Bool) (k : ℕ) → v ≡ Capability b → k ≡ bitText b → Appends l at ((128 + k) ∷ []) r f → Appends l at (contentsIn (valueBy s v)) r f
+  unfolding valueBy contentsIn contentsText
   stands-capability b k e q a = rw e (rw q at a)
 
 pub ruleset standing = (stands, stands-codecs, stands-report, stands-unit, stands-capability)
 
 -- what the parts of a value that is in range have
-module _ (s : List ℕ) (v : ValuePlace) (h : inRangeIn (valueIn s v) ≡ true) where
+module _ (s : List ℕ) (v : ValuePlace) (h : inRangeIn (valueBy s v) ≡ true) where
   pub report-right : (n : ℕ) (p : Span) (t : List ℕ) → v ≡ Report n p → t ≡ textOf s p → inRangeIn (reportOf n t) ≡ true
-  unfolding valueIn
+  unfolding valueBy
   report-right n p t e q = rw q (rw e at h)
 
   pub unit-right : (n p : Span) (t : List ℕ) → v ≡ UnitPlace n p → t ≡ textOf s n → length t ≤ 255
-  unfolding valueIn inRangeIn inRange
+  unfolding valueBy inRangeIn inRange
   unit-right n p t e q =
       let z : (leb (length (textOf s n)) 255 && leb 1 (length (textOf s p))) ≡ true = rw e at h in
       rw q (leb-true _ _ (and-both (leb (length (textOf s n)) 255) (leb 1 (length (textOf s p))) z .0))

@@ -8,3 +8,4 @@ pub mod ContentsLaws
 pub mod RangeLaws
 pub mod WriteLaws
 pub mod Back
+pub mod InsideLaws

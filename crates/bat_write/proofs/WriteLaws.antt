@@ -19,7 +19,7 @@ use Rattle.bat.specs.declared.Put.{Put}
 use Rattle.bat.specs.declared.Put.the-variants.{Refused as RefusedPut}
 use Rattle.bat.specs.Values.{Diagnostic, Value, Codecs, allCodecs, offence, onCodecs, codecsIn, report, diagnosticsIn}
 use Rattle.bat.specs.Writing.{elementText, identifierOf, valueText, octetsOf, octetsIn, putAnswer, putLeaves, Puts}
-use Rattle.bat.specs.Meaning.{valueIn}
+use Rattle.bat.specs.Meaning.{valueBy}
 use Rattle.bat_write.specs.Texts.{listOf, inRangeIn, contentsIn, codeOf, bounded}
 use Rattle.bat_write.proofs.PutLaws.{too-long}
 
@@ -34,8 +34,8 @@ unfolding Option·elim identifierOf
 report-coded r none = refl
 report-coded r (some ds) = refl
 
-coded : (s : List ℕ) (v : ValuePlace) → Option·elim (valueIn s v) (codeOf v) identifierOf ≡ codeOf v
-unfolding valueIn codeOf Option·elim identifierOf
+coded : (s : List ℕ) (v : ValuePlace) → Option·elim (valueBy s v) (codeOf v) identifierOf ≡ codeOf v
+unfolding valueBy codeOf Option·elim identifierOf
 coded s (Action n) = refl
 coded s (Backbone p) = refl
 coded s (Address p) = refl
@@ -86,14 +86,14 @@ module _ (z g s : List ℕ) (n : ℕ) (p : Appends z 0 s n g) where
       let e : g ≡ t ++ drop (0 + length t) z = rw o at leaves in
       rw e (take-at t (drop (0 + length t) z) (n - 0) l)
 
-module _ (s l : List ℕ) (c : ℕ) (v : ValuePlace) (t : Bool) (is : t ≡ inRangeIn (valueIn s v)) where
-  pub writes-none : t ≡ false → Puts (octetsIn c (valueIn s v)) l (RefusedPut 5) l
+module _ (s l : List ℕ) (c : ℕ) (v : ValuePlace) (t : Bool) (is : t ≡ inRangeIn (valueBy s v)) where
+  pub writes-none : t ≡ false → Puts (octetsIn c (valueBy s v)) l (RefusedPut 5) l
   unfolding putAnswer putLeaves
-  writes-none e = rw (octets-wrong c (valueIn s v) (sym is ∙ e)) (record { answers = refl; leaves = refl })
+  writes-none e = rw (octets-wrong c (valueBy s v) (sym is ∙ e)) (record { answers = refl; leaves = refl })
 
-  pub writes : (z g : List ℕ) (n i : ℕ) (r : Put) (f : List ℕ) → t ≡ true → Appends z 0 (contentsIn (valueIn s v)) n g → length z ≡ 2048 → i ≡ codeOf v
-      → Puts (bounded (elementText i c (take (n - 0) (drop 0 g)))) l r f → Puts (octetsIn c (valueIn s v)) l r f
+  pub writes : (z g : List ℕ) (n i : ℕ) (r : Put) (f : List ℕ) → t ≡ true → Appends z 0 (contentsIn (valueBy s v)) n g → length z ≡ 2048 → i ≡ codeOf v
+      → Puts (bounded (elementText i c (take (n - 0) (drop 0 g)))) l r f → Puts (octetsIn c (valueBy s v)) l r f
   writes z g n i r f e p h q a =
-      let u = contentsIn (valueIn s v) in
-      let o : octetsIn c (valueIn s v) ≡ bounded (elementText (codeOf v) c u) = octets-right c (codeOf v) (valueIn s v) (sym is ∙ e) (coded s v) in
+      let u = contentsIn (valueBy s v) in
+      let o : octetsIn c (valueBy s v) ≡ bounded (elementText (codeOf v) c u) = octets-right c (codeOf v) (valueBy s v) (sym is ∙ e) (coded s v) in
       rw (o, ← q, ← bounded-cut i c u, ← scratch-text z g u n p h) a

@@ -7,7 +7,7 @@ ghost use lib.ListN.{length};
 ghost use Rattle.octets.specs.Append.{Appends};
 ghost use Rattle.bat.specs.Values.{signal};
 ghost use Rattle.bat.specs.Writing.{wordText, bitText, codecText, lastingText, contentsText};
-ghost use Rattle.bat.specs.Meaning.{valueIn, codecIn, kindIn, lastingIn};
+ghost use Rattle.bat.specs.Meaning.{valueBy, codecIn, kindIn, lastingIn};
 ghost use Rattle.bat_write.specs.Texts.{reportOf, inRangeIn, contentsIn, codecsAnew};
 use crate::element::push_element;
 use bat::Codec;
@@ -125,8 +125,8 @@ fn push_signal(kind: Typed, duration: Timed, out: &mut [u8], at: usize) -> usize
 
 // Appends the contents of the element of a value that is in range.
 pub(crate) fn push_contents(value: Value, source: &[u8], out: &mut [u8], at: usize) -> usize
-    requires { ⌜ inRangeIn (valueIn (now source) value) ≡ true ⌝ }
-    ensures { λ r. ⌜ Appends (now (out .entry)) at (contentsIn (valueIn (now (source .entry)) value)) r (now (out .exit)) ⌝ }
+    requires { ⌜ inRangeIn (valueBy (now source) value) ≡ true ⌝ }
+    ensures { λ r. ⌜ Appends (now (out .entry)) at (contentsIn (valueBy (now (source .entry)) value)) r (now (out .exit)) ⌝ }
 {
     match value {
         Value::Action(n) => push_octet(n, out, at),

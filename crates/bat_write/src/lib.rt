@@ -6,7 +6,7 @@ mod ranges;
 ghost use mathlib.Core.Path.{_≡_};
 ghost use Rattle.bat.specs.Values.{meant};
 ghost use Rattle.bat.specs.Writing.{elementText, octetsIn, Puts};
-ghost use Rattle.bat.specs.Meaning.{valueIn};
+ghost use Rattle.bat.specs.Meaning.{valueBy, valueIn};
 ghost use Rattle.bat_write.specs.Texts.{bounded, codeOf};
 use bat::MOST_OCTETS;
 use bat::Put;
@@ -63,14 +63,24 @@ fn put_element(identifier: u8, compatibility: u8, contents: &[u8], out: &mut [u8
     Put::Octets(whole)
 }
 
-// Writes the element of a value whose spans are places in source, with the compatibility bits of this octet.
-pub fn write_element(value: Value, source: &[u8], compatibility: u8, out: &mut [u8]) -> Put
-    ensures { λ r. ⌜ Puts (octetsIn (meant compatibility) (valueIn (now (source .entry)) value)) (now (out .entry)) r (now (out .exit)) ⌝ }
+// Writes the element of a value whose spans lie inside source.
+fn write_inside(value: Value, source: &[u8], compatibility: u8, out: &mut [u8]) -> Put
+    ensures { λ r. ⌜ Puts (octetsIn (meant compatibility) (valueBy (now (source .entry)) value)) (now (out .entry)) r (now (out .exit)) ⌝ }
 {
     if ranges::in_range(value, source) {
         let mut scratch = [0u8; MOST_OCTETS];
         let n = contents::push_contents(value, source, &mut scratch, 0);
         return put_element(identifier(value), compatibility, &scratch[0..n], out);
+    }
+    Put::Refused(5)
+}
+
+// Writes the element of a value whose spans are places in source, with the compatibility bits of this octet.
+pub fn write_element(value: Value, source: &[u8], compatibility: u8, out: &mut [u8]) -> Put
+    ensures { λ r. ⌜ Puts (octetsIn (meant compatibility) (valueIn (now (source .entry)) value)) (now (out .entry)) r (now (out .exit)) ⌝ }
+{
+    if ranges::all_inside(value, source) {
+        return write_inside(value, source, compatibility, out);
     }
     Put::Refused(5)
 }

@@ -4,11 +4,12 @@ ghost use mathlib.Core.Bool.{_&&_};
 ghost use lib.ListN.{length};
 ghost use lib.Dec.{leb};
 ghost use Rattle.bat.specs.Values.{rightCodec};
-ghost use Rattle.bat.specs.Meaning.{valueIn, codecIn};
+ghost use Rattle.bat.specs.Meaning.{valueBy, codecIn, inside, allInside};
 ghost use Rattle.bat_write.specs.Texts.{codecsOf, reportOf, inRangeIn};
 use bat::Codec;
 use bat::Value;
 use bat_read::Offence;
+use octets::Span;
 use octets::spans::text;
 
 // s is one or more single codecs and nothing else.
@@ -52,7 +53,7 @@ fn are_unit(network: &[u8], local: &[u8]) -> bool
 
 // The value stands for one whose fields are in range.
 pub(crate) fn in_range(value: Value, source: &[u8]) -> bool
-    ensures { λ r. ⌜ r ≡ inRangeIn (valueIn (now (source .entry)) value) ⌝ }
+    ensures { λ r. ⌜ r ≡ inRangeIn (valueBy (now (source .entry)) value) ⌝ }
 {
     match value {
         Value::Action(n) => codes::is_action(n),
@@ -72,6 +73,63 @@ pub(crate) fn in_range(value: Value, source: &[u8]) -> bool
         Value::Capability(_) => true,
         Value::Indicators(p) => bat::ranges::are_indicators(text(source, p)),
         Value::SignalType(n) => codes::is_signal(n),
+        Value::Duration(_) => true,
+    }
+}
+
+// The span lies inside s.
+fn is_inside(s: &[u8], p: Span) -> bool
+    ensures { λ r. ⌜ r ≡ inside (now (s .entry)) p ⌝ }
+{
+    let at = p.at;
+    let len = p.len;
+    if s.len() < at {
+        return false;
+    }
+    if s.len() - at < len {
+        return false;
+    }
+    true
+}
+
+// Both spans lie inside s.
+fn are_inside(s: &[u8], p: Span, q: Span) -> bool
+    ensures { λ r. ⌜ r ≡ (inside (now (s .entry)) p && inside (now (s .entry)) q) ⌝ }
+{
+    if is_inside(s, p) {
+        return is_inside(s, q);
+    }
+    false
+}
+
+// The spans of the value lie inside source.
+pub(crate) fn all_inside(value: Value, source: &[u8]) -> bool
+    ensures { λ r. ⌜ r ≡ allInside (now (source .entry)) value ⌝ }
+{
+    match value {
+        Value::Action(_) => true,
+        Value::Backbone(p) => is_inside(source, p),
+        Value::Address(p) => is_inside(source, p),
+        Value::Codecs(p) => is_inside(source, p),
+        Value::Single(c) => {
+            let p = c.information;
+            is_inside(source, p)
+        }
+        Value::Report {
+            reason: _,
+            diagnostics,
+        } => is_inside(source, diagnostics),
+        Value::Characteristics(_) => true,
+        Value::Control(p) => is_inside(source, p),
+        Value::Tunnelling(_) => true,
+        Value::Unit { network, local } => are_inside(source, network, local),
+        Value::Signal {
+            kind: _,
+            duration: _,
+        } => true,
+        Value::Capability(_) => true,
+        Value::Indicators(p) => is_inside(source, p),
+        Value::SignalType(_) => true,
         Value::Duration(_) => true,
     }
 }

@@ -1,7 +1,7 @@
 -- `contents::push_contents` meets its contract. What each arm appends is the contents of the value that its match names.
 -- Assumes nothing.
 use borrow.Author.Needs.{needs}
-use Rattle.bat.specs.Meaning.{valueIn}
+use Rattle.bat.specs.Meaning.{valueBy}
 use Rattle.bat.specs.Writing.{contentsText}
 use Rattle.bat_write.proofs.ContentsLaws.{standing, report-right, unit-right, marked-fits}
 use Rattle.bat_write.specs.Texts.{contentsIn}
@@ -135,105 +135,105 @@ same-length : tie.Need-same-length
 same-length c = search needs
 
 returns : tie.Need-returns
-unfolding valueIn contentsIn contentsText
+unfolding valueBy contentsIn contentsText
 returns c = search (standing, needs)
 
 same-length-2 : tie.Need-same-length-2
 same-length-2 c = search needs
 
 returns-2 : tie.Need-returns-2
-unfolding valueIn contentsIn contentsText
+unfolding valueBy contentsIn contentsText
 returns-2 c = search (standing, needs)
 
 same-length-3 : tie.Need-same-length-3
 same-length-3 c = search needs
 
 returns-3 : tie.Need-returns-3
-unfolding valueIn contentsIn contentsText
+unfolding valueBy contentsIn contentsText
 returns-3 c = search (standing, needs)
 
 same-length-4 : tie.Need-same-length-4
 same-length-4 c = search needs
 
 returns-4 : tie.Need-returns-4
-unfolding valueIn contentsIn contentsText
+unfolding valueBy contentsIn contentsText
 returns-4 c = search (standing, needs)
 
 same-length-5 : tie.Need-same-length-5
 same-length-5 c = search needs
 
 returns-5 : tie.Need-returns-5
-unfolding valueIn contentsIn contentsText
+unfolding valueBy contentsIn contentsText
 returns-5 c = search (standing, needs)
 
 same-length-6 : tie.Need-same-length-6
 same-length-6 c = search needs
 
 returns-6 : tie.Need-returns-6
-unfolding valueIn contentsIn contentsText
+unfolding valueBy contentsIn contentsText
 returns-6 c = search (standing, needs)
 
 same-length-7 : tie.Need-same-length-7
 same-length-7 c = search needs
 
 returns-7 : tie.Need-returns-7
-unfolding valueIn contentsIn contentsText
+unfolding valueBy contentsIn contentsText
 returns-7 c = search (standing, needs)
 
 same-length-8 : tie.Need-same-length-8
 same-length-8 c = search needs
 
 returns-8 : tie.Need-returns-8
-unfolding valueIn contentsIn contentsText
+unfolding valueBy contentsIn contentsText
 returns-8 c = search (standing, needs)
 
 same-length-9 : tie.Need-same-length-9
 same-length-9 c = search needs
 
 returns-9 : tie.Need-returns-9
-unfolding valueIn contentsIn contentsText
+unfolding valueBy contentsIn contentsText
 returns-9 c = search (standing, needs)
 
 same-length-10 : tie.Need-same-length-10
 same-length-10 c = search needs
 
 returns-10 : tie.Need-returns-10
-unfolding valueIn contentsIn contentsText
+unfolding valueBy contentsIn contentsText
 returns-10 c = search (standing, needs)
 
 same-length-11 : tie.Need-same-length-11
 same-length-11 c = search needs
 
 returns-11 : tie.Need-returns-11
-unfolding valueIn contentsIn contentsText
+unfolding valueBy contentsIn contentsText
 returns-11 c = search (standing, needs)
 
 same-length-12 : tie.Need-same-length-12
 same-length-12 c = search needs
 
 returns-12 : tie.Need-returns-12
-unfolding valueIn contentsIn contentsText
+unfolding valueBy contentsIn contentsText
 returns-12 c = search (standing, needs)
 
 same-length-13 : tie.Need-same-length-13
 same-length-13 c = search needs
 
 returns-13 : tie.Need-returns-13
-unfolding valueIn contentsIn contentsText
+unfolding valueBy contentsIn contentsText
 returns-13 c = search (standing, needs)
 
 same-length-14 : tie.Need-same-length-14
 same-length-14 c = search needs
 
 returns-14 : tie.Need-returns-14
-unfolding valueIn contentsIn contentsText
+unfolding valueBy contentsIn contentsText
 returns-14 c = search (standing, needs)
 
 same-length-15 : tie.Need-same-length-15
 same-length-15 c = search needs
 
 returns-15 : tie.Need-returns-15
-unfolding valueIn contentsIn contentsText
+unfolding valueBy contentsIn contentsText
 returns-15 c = search (standing, needs)
 
 pub push-contents-spec : {M : Type 1} → statement M

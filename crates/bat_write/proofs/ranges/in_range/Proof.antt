@@ -1,7 +1,7 @@
 -- `ranges::in_range` meets its contract. What each arm tests is the range of the value that its match names.
 -- Assumes nothing.
 use borrow.Author.Needs.{needs}
-use Rattle.bat.specs.Meaning.{valueIn}
+use Rattle.bat.specs.Meaning.{valueBy}
 use Rattle.bat.specs.Writing.{inRange}
 use Rattle.bat_write.proofs.RangeLaws.{ranging}
 use Rattle.bat_write.specs.Texts.{inRangeIn}
@@ -108,63 +108,63 @@ enum-told-3 : tie.Need-enum-told-3
 enum-told-3 c = search needs
 
 returns : tie.Need-returns
-unfolding valueIn inRangeIn inRange
+unfolding valueBy inRangeIn inRange
 returns c = search (ranging, needs)
 
 returns-2 : tie.Need-returns-2
-unfolding valueIn inRangeIn inRange
+unfolding valueBy inRangeIn inRange
 returns-2 c = search (ranging, needs)
 
 returns-3 : tie.Need-returns-3
-unfolding valueIn inRangeIn inRange
+unfolding valueBy inRangeIn inRange
 returns-3 c = search (ranging, needs)
 
 returns-4 : tie.Need-returns-4
-unfolding valueIn inRangeIn inRange
+unfolding valueBy inRangeIn inRange
 returns-4 c = search (ranging, needs)
 
 returns-5 : tie.Need-returns-5
-unfolding valueIn inRangeIn inRange
+unfolding valueBy inRangeIn inRange
 returns-5 c = search (ranging, needs)
 
 returns-6 : tie.Need-returns-6
-unfolding valueIn inRangeIn inRange
+unfolding valueBy inRangeIn inRange
 returns-6 c = search (ranging, needs)
 
 returns-7 : tie.Need-returns-7
-unfolding valueIn inRangeIn inRange
+unfolding valueBy inRangeIn inRange
 returns-7 c = search (ranging, needs)
 
 returns-8 : tie.Need-returns-8
-unfolding valueIn inRangeIn inRange
+unfolding valueBy inRangeIn inRange
 returns-8 c = search (ranging, needs)
 
 returns-9 : tie.Need-returns-9
-unfolding valueIn inRangeIn inRange
+unfolding valueBy inRangeIn inRange
 returns-9 c = search (ranging, needs)
 
 returns-10 : tie.Need-returns-10
-unfolding valueIn inRangeIn inRange
+unfolding valueBy inRangeIn inRange
 returns-10 c = search (ranging, needs)
 
 returns-11 : tie.Need-returns-11
-unfolding valueIn inRangeIn inRange
+unfolding valueBy inRangeIn inRange
 returns-11 c = search (ranging, needs)
 
 returns-12 : tie.Need-returns-12
-unfolding valueIn inRangeIn inRange
+unfolding valueBy inRangeIn inRange
 returns-12 c = search (ranging, needs)
 
 returns-13 : tie.Need-returns-13
-unfolding valueIn inRangeIn inRange
+unfolding valueBy inRangeIn inRange
 returns-13 c = search (ranging, needs)
 
 returns-14 : tie.Need-returns-14
-unfolding valueIn inRangeIn inRange
+unfolding valueBy inRangeIn inRange
 returns-14 c = search (ranging, needs)
 
 returns-15 : tie.Need-returns-15
-unfolding valueIn inRangeIn inRange
+unfolding valueBy inRangeIn inRange
 returns-15 c = search (ranging, needs)
 
 pub in-range-spec : {M : Type 1} → statement M
