@@ -175,13 +175,20 @@ def instruct(first, possible):
     return act, notice
 
 
-def elements(possible, entries, data):
+def frame_data(data):
+    """The elements of data, or the refusal."""
     if len(data) > 2048:
         return "refused-1"
     try:
-        framed = frame_all(data)
+        return frame_all(data)
     except Unframed:
         return "refused-2"
+
+
+def elements(possible, entries, data):
+    framed = frame_data(data)
+    if isinstance(framed, str):
+        return framed
     if len(framed) > entries:
         return "refused-3"
     parts, listed, outcomes = [], [], set()
@@ -201,12 +208,9 @@ def elements(possible, entries, data):
 
 
 def rewrite(buffer, compat, data):
-    if len(data) > 2048:
-        return "refused-1"
-    try:
-        framed = frame_all(data)
-    except Unframed:
-        return "refused-2"
+    framed = frame_data(data)
+    if isinstance(framed, str):
+        return framed
     if not framed:
         return "refused-2"
     if len(framed) > 1:

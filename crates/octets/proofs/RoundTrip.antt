@@ -9,7 +9,7 @@ use native.Mathlib.Nat.{pow-suc}
 use native.Mathlib.Omega.{arith}
 use borrow.Author.Tests.{lt-ltb, le-ltb, le-leb, lt-leb, ne-eqb}
 use Rattle.octets.specs.declared.Number.the-variants.{Value}
-use Rattle.octets.specs.Append.{numberText}
+use Rattle.octets.specs.Append.{widthFrom, numberText}
 use Rattle.octets.specs.Decimal.{isDigit, allDigits, valueFrom, shortest, numberFrom, readNumber, lastDigits}
 use Rattle.octets.specs.Hex.{hexValue, octetsOf, hexDigit, hexText}
 use Rattle.octets.proofs.CaseLaws.{by-lt}
@@ -37,6 +37,20 @@ value-last (suc k) n h =
     let h′ : n < 10 ^ k * 10 = rw pow-suc at h in
     let e = value-last k (n / 10) (omega arith) in
     value-snoc 0 (lastDigits k (n / 10)) (48 + n % 10) ∙ omega arith
+
+-- the digits that are counted hold the number, and twenty hold every number of 64 bits
+width-holds : (e n : ℕ) → n < 10 ^ suc e → n < 10 ^ widthFrom e n
+width-holds zero n h = rw (width-one zero n (let k : n < 10 ^ 0 * 10 = rw pow-suc at h in omega arith)) h
+width-holds (suc e) n h =
+    by-lt n 10 _
+    (λ k. rw (width-one (suc e) n k) (let z : 10 ^ 1 ≡ 10 = refl in omega arith))
+    (λ k. let q : n < 10 ^ suc e * 10 = rw pow-suc at h in
+    let r = width-holds e (n / 10) (omega arith) in
+    rw (width-suc e n k, pow-suc) (omega arith))
+
+pub number-value : (n : ℕ) → n < 2 ^ 64 → valueFrom 0 (numberText n) ≡ n
+unfolding numberText
+number-value n h = value-last (widthFrom 19 n) n (width-holds 19 n (omega arith))
 
 -- k digits that stand for n, the first not '0' unless it is alone, are read as n
 last-back : (k n : ℕ) → n < 10 ^ k → n ≤ 65535 → shortest (lastDigits k n) ≡ true → readNumber (lastDigits k n) ≡ Value n
