@@ -1,5 +1,5 @@
--- Document 01, "Elements", the last two paragraphs (YD/T 1193.4 after Q.765.5, 4.6.1.1, figure 9, and 4.6.1.8 b): what is made of
--- an element that is not recognised, by its first compatibility octet, and what of the data.
+-- Document 01, "Elements", the last two paragraphs (YD/T 1193.4 after Q.765.5, 4.6.1.1, figure 9, and 4.6.1.8 b):
+-- what is made of an element that is not recognised, by its first compatibility octet, and what of the data.
 use Prim.Native.Nat.{ℕ, _+_, _/_, _%_}
 use mathlib.Core.List.{List, [], _∷_, map}
 use mathlib.Core.Bool.{Bool, false, not, _&&_, _||_, cond}

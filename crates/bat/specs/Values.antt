@@ -1,6 +1,7 @@
 -- Document 01, "Elements", the list of identifiers (YD/T 1193.4 after Q.765.5, 4.6.1.2 to 4.6.1.17), simple elements
--- in the order of their numbers and then the two constructors: what the contents of an element are decoded as, if they are. Where Q.765.5 leaves a code spare or a length open,
--- document 01's ranges decide: outside them the element is not recognised.
+-- in the order of their numbers and then the two constructors: what the contents of an element are decoded as, if
+-- they are. Where Q.765.5 leaves a code spare or a length open, document 01's ranges decide: outside them the
+-- element is not recognised.
 use Prim.Native.Nat.{ℕ, suc, _+_, _*_, _%_}
 use mathlib.Core.List.{List, [], _∷_}
 use mathlib.Core.Bool.{Bool, true, false, _&&_, cond}
