@@ -6,3 +6,4 @@ pub mod InnerLaws
 pub mod VerdictLaws
 pub mod OutcomeLaws
 pub mod ListedLaws
+pub mod Through
