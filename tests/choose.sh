@@ -1,6 +1,7 @@
 #!/usr/bin/env bash
 # choose.sh: writes crates/inspect/stdin and crates/inspect/stdout, which the gate runs. Every fifth line of each mode in tests/vectors, from the first on, with the
-# answer that stands there; then lines that are bad, one kind each. No answer is inspect's own.
+# answer that stands there; then lines whose answers are written by hand from the format: bad ones,
+# one kind each, and some that the vectors lack. No answer is taken from inspect's output.
 set -eu
 cd "$(dirname "$0")/.."
 in=crates/inspect/stdin

@@ -1,7 +1,9 @@
 #!/usr/bin/env python3
-"""What inspect should answer, modes elements and rewrite, from document 01 alone: this program shares no
-code with the card and was written without sight of it. Reads lines on standard input, prints one answer
-for each. docs/DECISIONS.md says how numbers and long lines are read."""
+"""What inspect should answer, modes elements and rewrite. Shares no code with the card. What it says of
+elements was written from document 01 and its readings without sight of the card's code. Two points of the
+line format are not its own: that numbers have no leading zero, and how long a line may be, are set as
+docs/DECISIONS.md reads them, so agreement on those two is no evidence. Reads lines on standard input,
+prints one answer for each."""
 import re
 import sys
 

@@ -77,7 +77,7 @@ pub record WholeLength (f : Frame) (r : ℕ) : Type 0 where
   pub is : r ≡ wholeOf f
   pub few : r ≤ 131327
 
--- the count of elements, where they can be framed
+-- the count of elements, where they can be framed: for `count_elements`, which is not public
 unfoldable pub countIn : Option (List Element) → Counted
 countIn none = Refused 2
 countIn (some es) = Elements (length es)
