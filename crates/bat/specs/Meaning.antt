@@ -6,8 +6,7 @@ use mathlib.Core.Bool.{Bool, true, _&&_, cond}
 use mathlib.Core.Option.{Option, none, some, Option·map}
 use lib.ListN.{length, take, drop}
 use lib.Dec.{leb}
-use Rattle.octets.specs.declared.Span.{Span}
-use Rattle.octets.specs.Spans.{textOf}
+use Rattle.octets.specs.Spans.{textOf, inside}
 use Rattle.bat.specs.declared.Size.{Size}
 use Rattle.bat.specs.declared.Size.the-variants.{Of, Missing}
 use Rattle.bat.specs.declared.Frame.{Frame}
@@ -116,10 +115,6 @@ valueBy s (Capability b) = some (capability b)
 valueBy s (Indicators p) = some (indicators (textOf s p))
 valueBy s (SignalType n) = some (signalType n)
 valueBy s (Duration n) = some (duration n)
-
--- a span does not go past the end of s
-abbrev pub inside : List ℕ → Span → Bool
-inside s p = leb (p .at + p .len) (length s)
 
 unfoldable pub allInside : List ℕ → ValuePlace → Bool
 allInside s (Action n) = true

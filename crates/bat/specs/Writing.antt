@@ -2,15 +2,12 @@
 -- written, and numbers 5 and 4. A length takes no more octets than it needs, bits that say nothing are 0, and
 -- one compatibility octet stands for all.
 use Prim.Native.Nat.{ℕ, suc, _+_, _/_, _%_}
-use mathlib.Core.Path.{_≡_}
 use mathlib.Core.List.{List, [], _∷_, _++_}
 use mathlib.Core.Bool.{Bool, true, _&&_, cond}
 use mathlib.Core.Option.{Option, none, some}
-use lib.ListN.{length, drop}
+use lib.ListN.{length}
 use lib.Dec.{leb, ltb}
 use Rattle.codes.specs.Codes.{isAction, isSignal}
-use Rattle.bat.specs.declared.Put.{Put}
-use Rattle.bat.specs.declared.Put.the-variants.{Octets, Refused as RefusedPut}
 use Rattle.bat.specs.Framing.{mostOctets}
 use Rattle.bat.specs.Values.{Diagnostic, Codec, ListedCodec, Lasting, untimed, lasting, Value, action, backbone, address, codecs, single, report, characteristics, control, tunnelling, controlUnit, signal, capability, indicators, signalType, duration, rightCodec, rightIndicators}
 
@@ -108,7 +105,7 @@ inRange (duration n) = true
 unfoldable pub valueText : ℕ → Value → List ℕ
 valueText c v = elementText (identifierOf v) c (contentsText v)
 
--- ---- what a writer answers, and what it leaves in the buffer
+-- ---- what a writer puts into its buffer (`Puts`)
 -- the octets to write: none where a field is out of range or the element is too long
 unfoldable pub octetsOf : ℕ → Value → Option (List ℕ)
 octetsOf c v = cond (inRange v && leb (length (valueText c v)) mostOctets) (some (valueText c v)) none
@@ -117,18 +114,3 @@ octetsOf c v = cond (inRange v && leb (length (valueText c v)) mostOctets) (some
 unfoldable pub octetsIn : ℕ → Option Value → Option (List ℕ)
 octetsIn c none = none
 octetsIn c (some v) = octetsOf c v
-
--- 5 where there are none; 4 where there is no room for them
-unfoldable pub putAnswer : ℕ → Option (List ℕ) → Put
-putAnswer room none = RefusedPut 5
-putAnswer room (some t) = cond (ltb room (length t)) (RefusedPut 4) (Octets (length t))
-
--- a refused call changes nothing; a taken one changes only the front that it fills
-unfoldable pub putLeaves : List ℕ → Option (List ℕ) → List ℕ
-putLeaves l none = l
-putLeaves l (some t) = cond (ltb (length l) (length t)) l (t ++ drop (length t) l)
-
--- The call to write these octets, if there are any, into the buffer l answers r and leaves f in it.
-pub record Puts (t : Option (List ℕ)) (l : List ℕ) (r : Put) (f : List ℕ) : Type 0 where
-  pub answers : r ≡ putAnswer (length l) t
-  pub leaves : f ≡ putLeaves l t

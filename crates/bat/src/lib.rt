@@ -129,9 +129,3 @@ pub enum DataAnswer {
     Refused(u8),
     Taken { count: usize, outcome: DataOutcome },
 }
-
-// A writer's answer: how many octets it wrote, or the number that refuses the call.
-pub enum Put {
-    Octets(usize),
-    Refused(u8),
-}

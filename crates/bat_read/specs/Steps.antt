@@ -5,14 +5,14 @@ use mathlib.Core.List.{List, _∷_}
 use mathlib.Core.Bool.{Bool, true, cond}
 use lib.Dec.{eqb}
 use Rattle.octets.specs.declared.Span.{Span}
-use Rattle.octets.specs.Spans.{textOf}
+use Rattle.octets.specs.Spans.{textOf, inside}
 use Rattle.bat.specs.declared.Reading.{Reading as ReadingPlace}
 use Rattle.bat.specs.declared.Reading.the-variants.{Decoded, Unrecognised}
 use Rattle.bat.specs.declared.Verdict.{Verdict as VerdictPlace}
 use Rattle.bat.specs.declared.Verdict.the-variants.{Recognised, Unknown}
 use Rattle.bat.specs.Framing.{fold}
 use Rattle.bat.specs.Judging.{indexBy, Verdict, known, unknown, verdict, isListed}
-use Rattle.bat.specs.Meaning.{inside, outcomeNumber, diagnosticIn, judgementIn}
+use Rattle.bat.specs.Meaning.{outcomeNumber, diagnosticIn, judgementIn}
 use Rattle.bat_read.specs.declared.Own.{Own}
 use Rattle.bat_read.specs.declared.Own.the-variants.{Lists, ListsNone}
 use Rattle.bat_read.specs.Examining.{Listing}

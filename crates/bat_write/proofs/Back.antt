@@ -2,24 +2,26 @@
 -- Assumes nothing.
 use Prim.Native.Nat.{ℕ}
 use mathlib.Core.Path.{_≡_, refl, sym, ap, _∙_}
-use mathlib.Core.List.{List, _++_}
+use mathlib.Core.List.{List}
 use mathlib.Core.Bool.{true, _&&_}
 use mathlib.Core.Option.{Option, none, some, Option·map, Option·elim}
 use lib.ListN.{length, drop}
 use lib.Seq.{drop-append-seam}
 use lib.Dec.{leb, ltb}
 use native.Mathlib.Omega.{arith}
-use borrow.Author.Tests.{lt-ltb, le-ltb, leb-true}
+use borrow.Author.Tests.{lt-ltb, leb-true}
 use Rattle.octets.specs.Spans.{textOf}
-use Rattle.octets.proofs.CaseLaws.{by-lt, by-bool}
+use Rattle.octets.proofs.PutsLaws.{puts-no, puts-some}
+use Rattle.octets.proofs.CaseLaws.{by-bool}
 use Rattle.bat.specs.declared.Timed.{Timed}
 use Rattle.bat.specs.declared.Timed.the-variants.{Untimed, Lasting as LastingFor}
 use Rattle.bat.specs.declared.Value.{Value as ValuePlace}
 use Rattle.bat.specs.declared.Value.the-variants.{Action, Backbone, Address, Codecs as CodecsPlace, Single, Report, Characteristics, Control, Tunnelling, Unit as UnitPlace, Signal, Capability, Indicators, SignalType, Duration}
-use Rattle.bat.specs.declared.Put.the-variants.{Octets, Refused as RefusedPut}
+use Rattle.octets.specs.declared.Put.the-variants.{Octets}
 use Rattle.bat.specs.Framing.{mostOctets, Element, whole, front, first}
 use Rattle.bat.specs.Values.{Diagnostic, Value, report, decoded, reading, meant, diagnosticsIn, Codecs, allCodecs, offence, onCodecs, codecsIn}
-use Rattle.bat.specs.Writing.{inRange, valueText, octetsOf, octetsIn, putAnswer, putLeaves, Puts}
+use Rattle.octets.specs.Puts.{Puts}
+use Rattle.bat.specs.Writing.{inRange, valueText, octetsOf, octetsIn}
 use Rattle.bat.specs.Meaning.{lastingIn, valueBy, allInside, valueIn}
 use Rattle.bat.proofs.RoundTrip.{and-both, settledLasting, settled, read-written}
 use Rattle.bat_write.specs.Texts.{listOf}
@@ -65,20 +67,6 @@ settled-in s (Duration n) = refl
 settled-inside : (s : List ℕ) (v : ValuePlace) → Option·elim (valueIn s v) true settled ≡ true
 unfolding valueIn Option·elim
 settled-inside s v = by-bool (allInside s v) _ (λ b. rw b (settled-in s v)) (λ b. rw b)
-
--- ---- what an answer of n octets says
-puts-no : (l : List ℕ) (n : ℕ) (f : List ℕ) → Puts none l (Octets n) f → ⊥
-unfolding putAnswer
-puts-no l n f p = let q : Octets n ≡ RefusedPut 5 = p .answers in let z : _≡_ {A = ℕ} 0 1 = cc in omega arith
-
-puts-some : (t l : List ℕ) (n : ℕ) (f : List ℕ) → Puts (some t) l (Octets n) f → (n ≡ length t) × (f ≡ t ++ drop (length t) l)
-unfolding putAnswer putLeaves
-puts-some t l n f p =
-    by-lt (length l) (length t) _
-    (λ h. let a = p .answers in let q : Octets n ≡ RefusedPut 4 = rw (lt-ltb (length l) (length t) h) at a in absurd (let z : _≡_ {A = ℕ} 0 1 = cc in omega arith))
-    (λ h. let a = p .answers in let q : Octets n ≡ Octets (length t) = rw (le-ltb (length l) (length t) h) at a in
-    let b = p .leaves in
-    (cc, rw (le-ltb (length l) (length t) h) at b))
 
 -- At the front of f, in n octets, stands an element that is decoded as the value that v stands for, with the compatibility bits of c.
 pub record WrittenBack (s : List ℕ) (v : ValuePlace) (c n : ℕ) (f : List ℕ) : Type 0 where

@@ -1,24 +1,24 @@
 -- The element of a value has the value's identifier and contents, and a buffer of 2,048 octets holds the contents or shows that they are too long.
 -- Assumes nothing.
-use Prim.Native.Nat.{ℕ, _+_, _-_, _≤_, min}
+use Prim.Native.Nat.{ℕ, _-_}
 use mathlib.Core.Path.{_≡_, refl, sym, _∙_}
-use mathlib.Core.List.{List, _++_}
+use mathlib.Core.List.{List}
 use mathlib.Core.Bool.{Bool, true, false}
 use mathlib.Core.Option.{Option, none, some, Option·map, Option·elim}
 use lib.ListN.{length, take, drop, length-take}
-use lib.Seq.{take-all, take-at}
+use lib.Seq.{take-all}
 use native.Mathlib.Omega.{arith}
 use Rattle.octets.specs.Spans.{textOf}
-use Rattle.octets.specs.Put.{put}
-use Rattle.octets.specs.Append.{nextOf, appended, Appends}
-use Rattle.octets.proofs.AppendLaws.{length-appends}
+use Rattle.octets.specs.Append.{Appends}
+use Rattle.octets.proofs.PutsLaws.{puts-none, scratch-text}
 use Rattle.octets.proofs.CaseLaws.{by-le}
 use Rattle.bat.specs.declared.Value.{Value as ValuePlace}
 use Rattle.bat.specs.declared.Value.the-variants.{Action, Backbone, Address, Codecs as CodecsPlace, Single, Report, Characteristics, Control, Tunnelling, Unit as UnitPlace, Signal, Capability, Indicators, SignalType, Duration}
-use Rattle.bat.specs.declared.Put.{Put}
-use Rattle.bat.specs.declared.Put.the-variants.{Refused as RefusedPut}
+use Rattle.octets.specs.declared.Put.{Put}
+use Rattle.octets.specs.declared.Put.the-variants.{Refused as RefusedPut}
 use Rattle.bat.specs.Values.{Diagnostic, Value, Codecs, allCodecs, offence, onCodecs, codecsIn, report, diagnosticsIn}
-use Rattle.bat.specs.Writing.{elementText, identifierOf, valueText, octetsOf, octetsIn, putAnswer, putLeaves, Puts}
+use Rattle.octets.specs.Puts.{Puts}
+use Rattle.bat.specs.Writing.{elementText, identifierOf, valueText, octetsOf, octetsIn}
 use Rattle.bat.specs.Meaning.{valueBy}
 use Rattle.bat_write.specs.Texts.{listOf, inRangeIn, contentsIn, codeOf, bounded}
 use Rattle.bat_write.proofs.PutLaws.{too-long}
@@ -70,30 +70,13 @@ bounded-cut i c s =
     (λ h. rw (take-all 2048 s h))
     (λ h. too-long i c (take 2048 s) s (simp length-take (omega arith)) ∙ sym (too-long i c s s (omega arith)))
 
-module _ (z g s : List ℕ) (n : ℕ) (p : Appends z 0 s n g) where
-  pub appended-inside : n ≤ length g
-  unfolding nextOf
-  appended-inside = omega (arith, p .next, length-appends z g 0 s n p)
-
-  scratch-text : length z ≡ 2048 → take (n - 0) (drop 0 g) ≡ take 2048 s
-  unfolding nextOf appended put
-  scratch-text h =
-      let next : n ≡ 0 + min (length z - 0) (length s) = p .next in
-      let o : length z - 0 ≡ 2048 = omega arith in
-      let t = take 2048 s in
-      let l : length t ≡ n - 0 = simp length-take (omega arith) in
-      let leaves : g ≡ put z 0 (take (length z - 0) s) = p .leaves in
-      let e : g ≡ t ++ drop (0 + length t) z = rw o at leaves in
-      rw e (take-at t (drop (0 + length t) z) (n - 0) l)
-
 module _ (s l : List ℕ) (c : ℕ) (v : ValuePlace) (t : Bool) (is : t ≡ inRangeIn (valueBy s v)) where
   pub writes-none : t ≡ false → Puts (octetsIn c (valueBy s v)) l (RefusedPut 5) l
-  unfolding putAnswer putLeaves
-  writes-none e = rw (octets-wrong c (valueBy s v) (sym is ∙ e)) (record { answers = refl; leaves = refl })
+  writes-none e = rw (octets-wrong c (valueBy s v) (sym is ∙ e)) (puts-none l)
 
   pub writes : (z g : List ℕ) (n i : ℕ) (r : Put) (f : List ℕ) → t ≡ true → Appends z 0 (contentsIn (valueBy s v)) n g → length z ≡ 2048 → i ≡ codeOf v
       → Puts (bounded (elementText i c (take (n - 0) (drop 0 g)))) l r f → Puts (octetsIn c (valueBy s v)) l r f
   writes z g n i r f e p h q a =
       let u = contentsIn (valueBy s v) in
       let o : octetsIn c (valueBy s v) ≡ bounded (elementText (codeOf v) c u) = octets-right c (codeOf v) (valueBy s v) (sym is ∙ e) (coded s v) in
-      rw (o, ← q, ← bounded-cut i c u, ← scratch-text z g u n p h) a
+      rw (o, ← q, ← bounded-cut i c u, ← scratch-text z g u n p 2048 h) a

@@ -5,12 +5,13 @@ mod ranges;
 
 ghost use mathlib.Core.Path.{_≡_};
 ghost use Rattle.bat.specs.Values.{meant};
-ghost use Rattle.bat.specs.Writing.{elementText, octetsIn, Puts};
+ghost use Rattle.octets.specs.Puts.{Puts};
+ghost use Rattle.bat.specs.Writing.{elementText, octetsIn};
 ghost use Rattle.bat.specs.Meaning.{valueBy, valueIn};
 ghost use Rattle.bat_write.specs.Texts.{bounded, codeOf};
 use bat::MOST_OCTETS;
-use bat::Put;
 use bat::Value;
+use octets::Put;
 
 // The most octets of contents: an identifier, two octets of length and one of compatibility stand before them.
 const MOST_CONTENTS: usize = 2044;

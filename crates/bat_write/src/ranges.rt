@@ -4,12 +4,14 @@ ghost use mathlib.Core.Bool.{_&&_};
 ghost use lib.ListN.{length};
 ghost use lib.Dec.{leb};
 ghost use Rattle.bat.specs.Values.{rightCodec};
-ghost use Rattle.bat.specs.Meaning.{valueBy, codecIn, inside, allInside};
+ghost use Rattle.octets.specs.Spans.{inside};
+ghost use Rattle.bat.specs.Meaning.{valueBy, codecIn, allInside};
 ghost use Rattle.bat_write.specs.Texts.{codecsOf, reportOf, inRangeIn};
 use bat::Codec;
 use bat::Value;
 use bat_read::Offence;
 use octets::Span;
+use octets::spans::is_inside;
 use octets::spans::text;
 
 // s is one or more single codecs and nothing else.
@@ -75,21 +77,6 @@ pub(crate) fn in_range(value: Value, source: &[u8]) -> bool
         Value::SignalType(n) => codes::is_signal(n),
         Value::Duration(_) => true,
     }
-}
-
-// The span lies inside s.
-fn is_inside(s: &[u8], p: Span) -> bool
-    ensures { λ r. ⌜ r ≡ inside (now (s .entry)) p ⌝ }
-{
-    let at = p.at;
-    let len = p.len;
-    if s.len() < at {
-        return false;
-    }
-    if s.len() - at < len {
-        return false;
-    }
-    true
 }
 
 // Both spans lie inside s.

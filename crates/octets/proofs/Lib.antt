@@ -7,6 +7,7 @@ pub mod LendLaws
 pub mod Pick
 pub mod PartLaws
 pub mod AppendLaws
+pub mod PutsLaws
 pub mod DecimalLaws
 pub mod HexLaws
 pub mod SpanLaws

@@ -3,11 +3,13 @@
 use Prim.Native.Nat.{ℕ, _+_, _-_, _≤_, _<_}
 use mathlib.Core.Path.{_≡_, sym, _∙_}
 use mathlib.Core.List.{List, []}
+use mathlib.Core.Bool.{true, false}
 use lib.ListN.{length, take, drop, length-take, length-drop, drop-of-length-le}
 use lib.Seq.{take-all, take-nil}
 use native.Mathlib.Omega.{arith}
+use borrow.Author.Tests.{le-leb, lt-leb}
 use Rattle.octets.specs.declared.Span.{Span}
-use Rattle.octets.specs.Spans.{textOf}
+use Rattle.octets.specs.Spans.{textOf, inside}
 use Rattle.octets.proofs.LendLaws.{tail-is}
 
 module _ (m : List ℕ) (sp : Span) where
@@ -52,3 +54,16 @@ module _ (s : List ℕ) (n : ℕ) where
   up-to-front = let z : n - 0 ≡ n = omega arith in rw z
 
 pub ruleset ends = (after-past, after-end, up-to-all, up-to-front)
+
+-- ---- spans that lie inside
+module _ (s : List ℕ) (p : Span) where
+  pub inside-off : length s < p .at → false ≡ inside s p
+  inside-off h = sym (lt-leb (p .at + p .len) (length s) (omega arith))
+
+  pub inside-past : p .at ≤ length s → length s - p .at < p .len → false ≡ inside s p
+  inside-past h k = sym (lt-leb (p .at + p .len) (length s) (omega arith))
+
+  pub inside-yes : p .at ≤ length s → p .len ≤ length s - p .at → true ≡ inside s p
+  inside-yes h k = sym (le-leb (p .at + p .len) (length s) (omega arith))
+
+pub ruleset insides = (inside-off, inside-past, inside-yes)

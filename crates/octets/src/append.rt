@@ -1,11 +1,14 @@
 // Appending to a lent buffer. What finds no room is left out.
 ghost use mathlib.Core.Path.{_≡_};
 ghost use mathlib.Core.List.{[], _∷_, _++_};
+ghost use mathlib.Core.Option.{some};
 ghost use Prim.Native.Nat.{_+_, _≤_};
 ghost use lib.ListN.{length};
 ghost use Rattle.octets.specs.Put.{put};
 ghost use Rattle.octets.specs.Decimal.{lastDigits};
 ghost use Rattle.octets.specs.Append.{Appends, Width, numberText};
+ghost use Rattle.octets.specs.Puts.{Puts};
+use crate::Put;
 
 // Appends src to the `at` octets in out.
 pub fn push(src: &[u8], out: &mut [u8], at: usize) -> usize
@@ -81,4 +84,15 @@ pub fn push_number_then(n: u64, b: u8, out: &mut [u8], at: usize) -> usize
 {
     let k = push_number(n, out, at);
     push_octet(b, out, k)
+}
+
+// Writes src at the front of out, where there is room for all of it.
+pub fn put_front(src: &[u8], out: &mut [u8]) -> Put
+    ensures { λ r. ⌜ Puts (some (now (src .entry))) (now (out .entry)) r (now (out .exit)) ⌝ }
+{
+    if out.len() < src.len() {
+        return Put::Refused(4);
+    }
+    push(src, out, 0);
+    Put::Octets(src.len())
 }

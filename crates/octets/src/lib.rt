@@ -12,6 +12,12 @@ pub enum Written {
     NoRoom,
 }
 
+// What a writer at the front of a buffer answers: how many octets it wrote, or document 01's number.
+pub enum Put {
+    Octets(usize),
+    Refused(u8),
+}
+
 // What a text was read as: a number, or none.
 pub enum Number {
     Value(u16),

@@ -1,7 +1,7 @@
 // Spans of a text. Every function answers for every span: one that lies outside the text stands for what of it lies inside.
 ghost use mathlib.Core.Path.{_≡_};
 ghost use lib.ListN.{take, drop};
-ghost use Rattle.octets.specs.Spans.{textOf};
+ghost use Rattle.octets.specs.Spans.{textOf, inside};
 use crate::Span;
 
 // The text that sp stands for in m.
@@ -38,4 +38,19 @@ pub fn up_to(s: &[u8], n: usize) -> &[u8]
         return s;
     }
     &s[0..n]
+}
+
+// sp lies inside m.
+pub fn is_inside(m: &[u8], sp: Span) -> bool
+    ensures { λ r. ⌜ r ≡ inside (now (m .entry)) sp ⌝ }
+{
+    let at = sp.at;
+    let len = sp.len;
+    if m.len() < at {
+        return false;
+    }
+    if m.len() - at < len {
+        return false;
+    }
+    true
 }

@@ -2,7 +2,8 @@
 -- Assumes nothing.
 use borrow.Author.Needs.{needs}
 use Rattle.octets.proofs.Pick.{flags}
-use Rattle.bat_write.proofs.WriteLaws.{appended-inside, writes-none, writes}
+use Rattle.octets.proofs.PutsLaws.{appended-inside}
+use Rattle.bat_write.proofs.WriteLaws.{writes-none, writes}
 use Rattle.bat_write.proofs.write_inside.Statement.{statement}
 use Rattle.bat_write.proofs.write_inside.Tie as tie
 

@@ -1,9 +1,9 @@
--- `ranges::is_inside` meets its contract: the two tests leave a span whose end is in the slice.
+-- `spans::is_inside` meets its contract: the two tests leave a span whose end is in the slice.
 -- Assumes nothing.
-use Rattle.bat_write.proofs.InsideLaws.{insides}
+use Rattle.octets.proofs.SpanLaws.{insides}
 use borrow.Author.Needs.{needs}
-use Rattle.bat_write.proofs.ranges.is_inside.Statement.{statement}
-use Rattle.bat_write.proofs.ranges.is_inside.Tie as tie
+use Rattle.octets.proofs.spans.is_inside.Statement.{statement}
+use Rattle.octets.proofs.spans.is_inside.Tie as tie
 
 returns : tie.Need-returns
 returns c = search (insides, needs)

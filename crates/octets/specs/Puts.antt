@@ -1,0 +1,26 @@
+-- Document 01, "Refusal numbers", what it says of every writer: 5 where a field is out of range, then 4 where there is no
+-- room; a refused call leaves the buffer as it was, and no octet past those written changes.
+use Prim.Native.Nat.{ℕ}
+use mathlib.Core.Path.{_≡_}
+use mathlib.Core.List.{List, _++_}
+use mathlib.Core.Bool.{cond}
+use mathlib.Core.Option.{Option, none, some}
+use lib.ListN.{length, drop}
+use lib.Dec.{ltb}
+use Rattle.octets.specs.declared.Put.{Put}
+use Rattle.octets.specs.declared.Put.the-variants.{Octets, Refused}
+
+-- the answer to a call that has these octets to write, if there are any, into a buffer of so many
+unfoldable pub putAnswer : ℕ → Option (List ℕ) → Put
+putAnswer room none = Refused 5
+putAnswer room (some t) = cond (ltb room (length t)) (Refused 4) (Octets (length t))
+
+-- what it leaves in the buffer l
+unfoldable pub putLeaves : List ℕ → Option (List ℕ) → List ℕ
+putLeaves l none = l
+putLeaves l (some t) = cond (ltb (length l) (length t)) l (t ++ drop (length t) l)
+
+-- The call to write these octets, if there are any, into the buffer l answers r and leaves f in it.
+pub record Puts (t : Option (List ℕ)) (l : List ℕ) (r : Put) (f : List ℕ) : Type 0 where
+  pub answers : r ≡ putAnswer (length l) t
+  pub leaves : f ≡ putLeaves l t
