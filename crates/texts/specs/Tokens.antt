@@ -1,0 +1,23 @@
+-- Tokens of a text, parted by one blank each (document 01, "Message, version 1"), and what stands behind a first blank.
+use Prim.Native.Nat.{ℕ, _+_}
+use mathlib.Core.List.{List, [], _∷_}
+use mathlib.Core.Bool.{Bool, true, _&&_, cond}
+use lib.ListN.{length, drop}
+use lib.Dec.{ltb}
+use Rattle.octets.specs.Split.{before, splitOn, partOf}
+
+-- the k-th token of s, from 0; a blank is 32
+abbrev pub token : ℕ → List ℕ → List ℕ
+token k s = partOf k (splitOn 32 s)
+
+unfoldable pub noneEmpty : List (List ℕ) → Bool
+noneEmpty [] = true
+noneEmpty (p ∷ ps) = ltb 0 (length p) && noneEmpty ps
+
+-- how many tokens s has; 0 where one would be empty, as between two blanks or at an end
+unfoldable pub tokenCount : List ℕ → ℕ
+tokenCount s = cond (noneEmpty (splitOn 32 s)) (length (splitOn 32 s)) 0
+
+-- what stands behind the first blank of s; empty where there is none
+unfoldable pub behindBlank : List ℕ → List ℕ
+behindBlank s = drop (length (before 32 s) + 1) s
