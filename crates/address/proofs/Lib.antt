@@ -1,0 +1,20 @@
+-- The laws of the definitions in `specs/`, a file for each subject.
+-- Assumes nothing.
+pub mod ParsedLaws
+pub mod KindLaws
+pub mod PartLaws
+pub mod Ipv4Laws
+pub mod GroupLaws
+pub mod GapLaws
+pub mod SideLaws
+pub mod HalvesLaws
+pub mod Ipv6Laws
+pub mod RunLaws
+pub mod WriteLaws
+pub mod TextLaws
+pub mod JoinLaws
+pub mod RoundTrip
+pub mod Lengths
+pub mod Visible
+pub mod Canonical
+pub mod LongestRun

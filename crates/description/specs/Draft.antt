@@ -1,0 +1,131 @@
+-- Document 01, "Message, version 1": what a Request or Accepted says, line by line. A draft is what the lines so far have
+-- said; each line makes a draft of it, or is wrong (number 10).
+use Prim.Native.Nat.{ℕ}
+use mathlib.Core.List.{List, [], _∷_}
+use mathlib.Core.Bool.{Bool, true, _&&_, _||_, cond}
+use mathlib.Core.Option.{Option, none, some, Option·map}
+use lib.Dec.{eqb}
+use Rattle.octets.specs.Split.{has}
+use Rattle.octets.specs.Words.{begins, same, digitRun}
+use Rattle.texts.specs.Tokens.{token, tokenCount}
+use Rattle.address.specs.declared.Address.{Address}
+use Rattle.address.specs.declared.Address.the-variants.{V4}
+use Rattle.address.specs.declared.Parsed.{Parsed}
+use Rattle.address.specs.declared.Parsed.the-variants.{Unreadable}
+use Rattle.address.specs.Kinds.{onParsed}
+use Rattle.address.specs.Ipv4.{readV4}
+use Rattle.address.specs.Ipv6.{readV6}
+use Rattle.media.specs.Stream.{Stream}
+use Rattle.media.specs.Attributes.{mediaOf, isAttribute, attributeOf}
+
+pub record Draft : Type 0 where
+  -- how many of the needed lines there were: v, o, s, c, t, ipbcp and m are seven
+  pub had : ℕ
+  -- from `c=`
+  pub address : Address
+  -- from `m=` and the attributes behind it
+  pub stream : Stream
+
+-- before the first line
+unfoldable pub start : Draft
+start = record { had = 0; address = V4 0; stream = record { media = []; port = 0; transport = []; payload = 0; rtpmap = []; fmtp = []; ptime = 0 } }
+
+-- ---- the needed lines: once each, and in this order; v is what stands behind the letter and `=`
+unfoldable pub reached : ℕ → Draft → Draft
+reached n d = record { had = n; address = d .address; stream = d .stream }
+
+-- the needed line behind n others, if it is right
+unfoldable pub needed : ℕ → ℕ → Bool → Draft → Option Draft
+needed n next right d = cond (eqb (d .had) n) (cond right (some (reached next d)) none) none
+
+-- `v=0`
+unfoldable pub versionLine : Draft → List ℕ → Option Draft
+versionLine d v = needed 0 1 (same (48 ∷ []) v) d
+
+-- "IN", "IP4" and "IP6"
+abbrev pub inWord : List ℕ
+inWord = 73 ∷ 78 ∷ []
+
+abbrev pub ip4Word : List ℕ
+ip4Word = 73 ∷ 80 ∷ 52 ∷ []
+
+abbrev pub ip6Word : List ℕ
+ip6Word = 73 ∷ 80 ∷ 54 ∷ []
+
+-- six tokens, of which the fourth and the fifth are looked at
+unfoldable pub isOrigin : List ℕ → Bool
+isOrigin v = eqb (tokenCount v) 6 && (same inWord (token 3 v) && (same ip4Word (token 4 v) || same ip6Word (token 4 v)))
+
+unfoldable pub originLine : Draft → List ℕ → Option Draft
+originLine d v = needed 1 2 (isOrigin v) d
+
+-- `s=` says nothing
+unfoldable pub sessionLine : Draft → Option Draft
+sessionLine d = needed 2 3 true d
+
+-- an address of the family that the word names
+unfoldable pub addressOf : List ℕ → List ℕ → Parsed
+addressOf family s = cond (same ip4Word family) (readV4 s) (cond (same ip6Word family) (readV6 s) Unreadable)
+
+-- IN, a family, and a unicast address of it
+unfoldable pub connectionOf : List ℕ → Parsed
+connectionOf v = cond (eqb (tokenCount v) 3 && same inWord (token 0 v)) (addressOf (token 1 v) (token 2 v)) Unreadable
+
+unfoldable pub withAddress : Draft → Address → Draft
+withAddress d a = record { had = 4; address = a; stream = d .stream }
+
+unfoldable pub connectionLine : Draft → List ℕ → Option Draft
+connectionLine d v = cond (eqb (d .had) 3) (onParsed (connectionOf v) (λ a. some (withAddress d a)) none) none
+
+-- two runs of digits, which may have leading zeros
+unfoldable pub isTime : List ℕ → Bool
+isTime v = eqb (tokenCount v) 2 && (digitRun (token 0 v) && digitRun (token 1 v))
+
+unfoldable pub timeLine : Draft → List ℕ → Option Draft
+timeLine d v = needed 4 5 (isTime v) d
+
+-- The ipbcp line. Behind five others it can only be the first such, from which version and type were read (number 9).
+unfoldable pub ipbcpLine : Draft → Option Draft
+ipbcpLine d = needed 5 6 true d
+
+unfoldable pub withStream : Draft → Stream → Draft
+withStream d s = record { had = 7; address = d .address; stream = s }
+
+unfoldable pub mediaLine : Draft → List ℕ → Option Draft
+mediaLine d v = cond (eqb (d .had) 6) (Option·map (withStream d) (mediaOf v)) none
+
+-- ---- attributes; a is what stands behind `a=`
+-- "ipbcp:"
+abbrev pub ipbcpWord : List ℕ
+ipbcpWord = 105 ∷ 112 ∷ 98 ∷ 99 ∷ 112 ∷ 58 ∷ []
+
+-- The three attributes of a media line stand behind it alone; others than these are skipped.
+unfoldable pub attributeLine : Draft → List ℕ → Option Draft
+attributeLine d a =
+    cond (begins ipbcpWord a) (ipbcpLine d)
+    (cond (isAttribute a)
+        (cond (eqb (d .had) 7) (Option·map (withStream d) (attributeOf (d .stream) a)) none)
+        (some d))
+
+-- ---- any line
+-- i, u, e, p, b, z, k and r
+abbrev pub skippedLetters : List ℕ
+skippedLetters = 105 ∷ 117 ∷ 101 ∷ 112 ∷ 98 ∷ 122 ∷ 107 ∷ 114 ∷ []
+
+-- by the letter: v, o, s, c, t, m, a, one of those that are skipped, or another, which is wrong
+unfoldable pub fieldOf : Draft → ℕ → List ℕ → Option Draft
+fieldOf d letter v =
+    cond (eqb letter 118) (versionLine d v)
+    (cond (eqb letter 111) (originLine d v)
+    (cond (eqb letter 115) (sessionLine d)
+    (cond (eqb letter 99) (connectionLine d v)
+    (cond (eqb letter 116) (timeLine d v)
+    (cond (eqb letter 109) (mediaLine d v)
+    (cond (eqb letter 97) (attributeLine d v)
+    (cond (has letter skippedLetters) (some d) none)))))))
+
+-- a line is a letter, `=`, and what stands behind
+unfoldable pub lineOf : Draft → List ℕ → Option Draft
+lineOf d [] = none
+lineOf d (letter ∷ []) = none
+lineOf d (letter ∷ _ ∷ v) = fieldOf d letter v

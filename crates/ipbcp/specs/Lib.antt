@@ -1,0 +1,5 @@
+-- What the contracts of this crate speak of.
+pub mod Types
+pub mod Reading
+pub mod Writing
+pub mod Meaning

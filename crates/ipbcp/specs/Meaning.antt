@@ -1,0 +1,32 @@
+-- What the enums of this crate stand for: the spans of a stream are places in the message that was read, or in the source
+-- that is written from. One whose span goes past the end stands for nothing.
+use Prim.Native.Nat.{ℕ}
+use mathlib.Core.List.{List}
+use mathlib.Core.Option.{Option, none, some, Option·map}
+use Rattle.media.specs.Meaning.{streamIn}
+use Rattle.ipbcp.specs.declared.Kind.{Kind}
+use Rattle.ipbcp.specs.declared.Word.{Word}
+use Rattle.ipbcp.specs.declared.Word.the-variants.{Known, Unknown}
+use Rattle.ipbcp.specs.declared.Message.{Message}
+use Rattle.ipbcp.specs.declared.Message.the-variants as answer
+use Rattle.ipbcp.specs.declared.Body.{Body}
+use Rattle.ipbcp.specs.declared.Body.the-variants as body
+use Rattle.ipbcp.specs.Reading.{Reading, refused, typed, described}
+use Rattle.ipbcp.specs.Writing.{Content, request, accepted, confused, rejected}
+
+-- document 01's number and values for each answer
+unfoldable pub readingIn : List ℕ → Message → Option Reading
+readingIn m (answer.Refused n) = some (refused n)
+readingIn m (answer.Typed version kind) = some (typed version kind)
+readingIn m (answer.Described kind address stream) = Option·map (described kind address) (streamIn m stream)
+
+unfoldable pub contentIn : List ℕ → Body → Option Content
+contentIn source (body.Request s) = Option·map request (streamIn source s)
+contentIn source (body.Accepted s) = Option·map accepted (streamIn source s)
+contentIn source body.Confused = some confused
+contentIn source body.Rejected = some rejected
+
+-- for the code's word of a type
+unfoldable pub wordIn : Word → Option Kind
+wordIn (Known k) = some k
+wordIn Unknown = none

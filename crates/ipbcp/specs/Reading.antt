@@ -1,0 +1,56 @@
+-- Document 01, "Message, version 1": what a message says. Its lines are in `Lines` of `sdp`, each line's meaning in `Draft`
+-- of `description` and `Attributes` of `media`, its version and type in `Types`.
+use Prim.Native.Nat.{ℕ}
+use mathlib.Core.List.{List, [], _∷_}
+use mathlib.Core.Bool.{Bool, true, false, cond}
+use mathlib.Core.Option.{Option, none, some, Option·elim}
+use lib.ListN.{length}
+use lib.Dec.{eqb, leb}
+use Rattle.sdp.specs.Lines.{lines}
+use Rattle.address.specs.declared.Address.{Address}
+use Rattle.media.specs.Stream.{Stream}
+use Rattle.description.specs.Draft.{Draft, start, lineOf}
+use Rattle.ipbcp.specs.declared.Kind.{Kind}
+use Rattle.ipbcp.specs.declared.Kind.the-variants.{Request, Accepted, Confused, Rejected}
+use Rattle.ipbcp.specs.declared.Head.{Head}
+use Rattle.ipbcp.specs.declared.Head.the-variants.{Typed, Untyped}
+use Rattle.ipbcp.specs.Types.{headIn}
+
+-- The answer to a message: document 01's number; or version and type, where nothing more is read; or a Request or Accepted
+-- of version 1, with the address of `c=` and what the media line and its attributes say.
+pub data Reading : Type 0 where
+  refused : ℕ → Reading
+  typed : ℕ → Kind → Reading
+  described : Kind → Address → Stream → Reading
+
+-- the draft of all lines, if none is wrong
+unfoldable pub linesOf : Draft → List (List ℕ) → Option Draft
+linesOf d [] = some d
+linesOf d (t ∷ ts) = Option·elim (lineOf d t) none (λ e. linesOf e ts)
+
+-- number 10: a wrong line, or not all seven that are needed
+unfoldable pub finish : Kind → Option Draft → Reading
+finish k none = refused 10
+finish k (some d) = cond (eqb (d .had) 7) (described k (d .address) (d .stream)) (refused 10)
+
+-- of Confused and Rejected no more than the type is read
+unfoldable pub isDescribed : Kind → Bool
+isDescribed Request = true
+isDescribed Accepted = true
+isDescribed Confused = false
+isDescribed Rejected = false
+
+-- number 9, or what is read by version and type
+unfoldable pub byHead : List ℕ → Head → Reading
+byHead m Untyped = refused 9
+byHead m (Typed version kind) =
+    cond (eqb version 1)
+    (cond (isDescribed kind) (finish kind (linesOf start (lines m))) (typed version kind))
+    (typed version kind)
+
+-- number 8 is given above this
+abbrev pub mostOctets : ℕ
+mostOctets = 512
+
+unfoldable pub readMessage : List ℕ → Reading
+readMessage m = cond (leb (length m) mostOctets) (byHead m (headIn m)) (refused 8)

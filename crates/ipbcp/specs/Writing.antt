@@ -1,0 +1,129 @@
+-- Document 01, "Message, version 1": the one form in which a message is written, and the fields that can be (number 5).
+use Prim.Native.Nat.{ℕ}
+use mathlib.Core.List.{List, [], _∷_, _++_}
+use mathlib.Core.Bool.{Bool, true, not, _&&_, cond}
+use mathlib.Core.Option.{Option, none, some}
+use lib.ListN.{length}
+use lib.Dec.{eqb, leb, ltb}
+use Rattle.octets.specs.Split.{has}
+use Rattle.sdp.specs.Lines.{allPlain}
+use Rattle.sdp.specs.Written.{linesText}
+use Rattle.address.specs.declared.Address.{Address}
+use Rattle.address.specs.declared.Address.the-variants.{V4, V6}
+use Rattle.address.specs.Kinds.{isUnicast}
+use Rattle.address.specs.Canonical.{addressText}
+use Rattle.media.specs.Stream.{Stream, mediaText, rtpmapLines, fmtpLines, ptimeText, attributesFit}
+use Rattle.description.specs.Draft.{inWord, ip4Word, ip6Word}
+use Rattle.ipbcp.specs.declared.Kind.{Kind}
+use Rattle.ipbcp.specs.declared.Kind.the-variants.{Request, Accepted, Confused, Rejected}
+use Rattle.ipbcp.specs.Types.{ipbcpStart, wordOf}
+use Rattle.ipbcp.specs.Reading.{Reading, typed, described}
+
+-- what can be written: one of the four types, a Request or Accepted with a media line
+pub data Content : Type 0 where
+  request : Stream → Content
+  accepted : Stream → Content
+  confused : Content
+  rejected : Content
+
+-- ---- the lines, without their ends
+unfoldable pub familyWord : Address → List ℕ
+familyWord (V4 n) = ip4Word
+familyWord (V6 h l) = ip6Word
+
+-- "IN", the family and the address
+unfoldable pub hostText : Address → List ℕ
+hostText a = inWord ++ (32 ∷ (familyWord a ++ (32 ∷ addressText a)))
+
+-- "v=0"
+abbrev pub versionText : List ℕ
+versionText = 118 ∷ 61 ∷ 48 ∷ []
+
+-- "o=- 0 0 " and the own address
+unfoldable pub originText : Address → List ℕ
+originText a = 111 ∷ 61 ∷ 45 ∷ 32 ∷ 48 ∷ 32 ∷ 48 ∷ 32 ∷ hostText a
+
+-- "s= "
+abbrev pub sessionText : List ℕ
+sessionText = 115 ∷ 61 ∷ 32 ∷ []
+
+-- "c=" and the own address
+unfoldable pub connectionText : Address → List ℕ
+connectionText a = 99 ∷ 61 ∷ hostText a
+
+-- "t=0 0"
+abbrev pub timeText : List ℕ
+timeText = 116 ∷ 61 ∷ 48 ∷ 32 ∷ 48 ∷ []
+
+-- "a=ipbcp:1 " and the type
+unfoldable pub ipbcpText : Kind → List ℕ
+ipbcpText k = ipbcpStart ++ (49 ∷ 32 ∷ wordOf k)
+
+-- of a packet time, none or one
+unfoldable pub ptimeLines : ℕ → List (List ℕ)
+ptimeLines n = cond (eqb n 0) [] (ptimeText n ∷ [])
+
+-- "m=" and what it says; rtpmap; fmtp in order; ptime
+unfoldable pub streamLines : Stream → List (List ℕ)
+streamLines s = (109 ∷ 61 ∷ mediaText s) ∷ (rtpmapLines s ++ (fmtpLines s ++ ptimeLines (s .ptime)))
+
+unfoldable pub kindIn : Content → Kind
+kindIn (request s) = Request
+kindIn (accepted s) = Accepted
+kindIn confused = Confused
+kindIn rejected = Rejected
+
+unfoldable pub mediaLines : Content → List (List ℕ)
+mediaLines (request s) = streamLines s
+mediaLines (accepted s) = streamLines s
+mediaLines confused = []
+mediaLines rejected = []
+
+unfoldable pub messageLines : Address → Content → List (List ℕ)
+messageLines own c =
+    versionText ∷ originText own ∷ sessionText ∷ connectionText own ∷ timeText ∷ ipbcpText (kindIn c) ∷ mediaLines c
+
+unfoldable pub messageText : Address → Content → List ℕ
+messageText own c = linesText (messageLines own c)
+
+-- ---- what is in range: just what would be read back
+unfoldable pub isToken : List ℕ → Bool
+isToken t = ltb 0 (length t) && (not (has 32 t) && allPlain t)
+
+unfoldable pub allTextsPlain : List (List ℕ) → Bool
+allTextsPlain [] = true
+allTextsPlain (t ∷ ts) = allPlain t && allTextsPlain ts
+
+unfoldable pub rightMedia : Stream → Bool
+rightMedia s = isToken (s .media) && (leb 1 (s .port) && (leb (s .port) 65535 && (isToken (s .transport) && leb (s .payload) 127)))
+
+unfoldable pub rightAttributes : Stream → Bool
+rightAttributes s =
+    allPlain (s .rtpmap) && (leb (length (s .fmtp)) 3 && (allTextsPlain (s .fmtp) && (leb (s .ptime) 255 && attributesFit s)))
+
+unfoldable pub rightContent : Content → Bool
+rightContent (request s) = rightMedia s && rightAttributes s
+rightContent (accepted s) = rightMedia s && rightAttributes s
+rightContent confused = true
+rightContent rejected = true
+
+-- the longest message that is written
+abbrev pub mostWritten : ℕ
+mostWritten = 447
+
+-- the octets to write: none where a field is out of range or the message would be too long
+unfoldable pub octetsOf : Address → Content → Option (List ℕ)
+octetsOf own c =
+    cond (isUnicast own && (rightContent c && leb (length (messageText own c)) mostWritten)) (some (messageText own c)) none
+
+-- the same where there may be no content at all
+unfoldable pub octetsIn : Address → Option Content → Option (List ℕ)
+octetsIn own none = none
+octetsIn own (some c) = octetsOf own c
+
+-- what such a message is read as
+unfoldable pub readingOf : Address → Content → Reading
+readingOf own (request s) = described Request own s
+readingOf own (accepted s) = described Accepted own s
+readingOf own confused = typed 1 Confused
+readingOf own rejected = typed 1 Rejected

@@ -1,0 +1,99 @@
+// The version and the type of a message.
+ghost use mathlib.Core.Path.{_≡_};
+ghost use Rattle.octets.specs.Words.{begins};
+ghost use Rattle.ipbcp.specs.Types.{ipbcpStart, wordOf, kindOf, headOf, withoutBlank, headIn};
+ghost use Rattle.ipbcp.specs.Meaning.{wordIn};
+use crate::Head;
+use crate::Kind;
+use crate::Word;
+use octets::Number;
+use octets::decimal::read_number;
+use octets::parts::part;
+use octets::spans::after;
+use octets::spans::text;
+use octets::words::equals;
+use octets::words::starts;
+use sdp::Line;
+use texts::count_tokens;
+
+// The type that w names.
+fn read_word(w: &[u8]) -> Word
+    ensures { λ r. ⌜ wordIn r ≡ kindOf (now (w .entry)) ⌝ }
+{
+    if equals(b"Request", w) {
+        return Word::Known(Kind::Request);
+    }
+    if equals(b"Accepted", w) {
+        return Word::Known(Kind::Accepted);
+    }
+    if equals(b"Confused", w) {
+        return Word::Known(Kind::Confused);
+    }
+    if equals(b"Rejected", w) {
+        return Word::Known(Kind::Rejected);
+    }
+    Word::Unknown
+}
+
+// s is a version and a type.
+fn head_of(s: &[u8]) -> Head
+    ensures { λ r. ⌜ r ≡ headOf (now (s .entry)) ⌝ }
+{
+    if count_tokens(s) != 2 {
+        return Head::Untyped;
+    }
+    let Number::Value(n) = read_number(part(s, 32, 0)) else {
+        return Head::Untyped;
+    };
+    if 255 < n {
+        return Head::Untyped;
+    }
+    let Word::Known(kind) = read_word(part(s, 32, 1)) else {
+        return Head::Untyped;
+    };
+    Head::Typed {
+        version: n as u8,
+        kind,
+    }
+}
+
+// s less a blank at its start.
+fn without_blank(s: &[u8]) -> &[u8]
+    ensures { λ r. ⌜ now r ≡ withoutBlank (now (s .entry)) ⌝ }
+{
+    if s.len() < 1 {
+        return s;
+    }
+    if s[0] == 32 {
+        return &s[1..];
+    }
+    s
+}
+
+// t begins `a=ipbcp:`.
+fn is_ipbcp(t: &[u8]) -> bool
+    ensures { λ r. ⌜ r ≡ begins ipbcpStart (now (t .entry)) ⌝ }
+{
+    starts(b"a=ipbcp:", t)
+}
+
+// The version and the type of m. Lines behind the ipbcp line are looked at for their form alone.
+pub(crate) fn read_head(m: &[u8]) -> Head
+    ensures { λ r. ⌜ r ≡ headIn (now (m .entry)) ⌝ }
+{
+    let mut i = 0;
+    while i < m.len() {
+        let Line::Text { text: sp, next } = sdp::next_line(m, i) else {
+            return Head::Untyped;
+        };
+        let t = text(m, sp);
+        if is_ipbcp(t) {
+            if sdp::in_lines(after(m, next)) {
+                return head_of(without_blank(after(t, 8)));
+            }
+            return Head::Untyped;
+        }
+        i = next;
+    }
+    Head::Untyped
+}

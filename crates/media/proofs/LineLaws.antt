@@ -1,0 +1,132 @@
+-- Laws of reading a media line and its attributes: what the code's tests leave, in their order, gives the definition's tests
+-- their values, and a stored span stands for the text that the definition has.
+-- Assumes nothing.
+use Prim.Native.Nat.{ℕ, _≤_}
+use mathlib.Core.Path.{_≡_, sym, ap, _∙_}
+use mathlib.Core.List.{List, [], _∷_, _++_}
+use mathlib.Core.Bool.{Bool, true, false}
+use mathlib.Core.Option.{Option, some}
+use lib.ListN.{length, drop}
+use lib.Dec.{eqb, ltb}
+use native.Mathlib.Omega.{arith}
+use borrow.Author.Tests.{eqb-true, eqb-false, lt-ltb, le-ltb, le-leb, eq-eqb, ne-eqb}
+use Rattle.octets.specs.declared.Span.{Span}
+use Rattle.octets.specs.declared.Number.{Number}
+use Rattle.octets.specs.declared.Number.the-variants.{Value}
+use Rattle.octets.specs.Decimal.{readNumber, onNumber}
+use Rattle.octets.specs.Spans.{textOf}
+use Rattle.octets.specs.Words.{begins}
+use Rattle.texts.specs.Tokens.{token, tokenCount, behindBlank}
+use Rattle.media.specs.declared.Texts.{Texts}
+use Rattle.media.specs.declared.Stream.{Stream as Places}
+use Rattle.media.specs.declared.Taken.the-variants.{Stream as TakenStream, Wrong}
+use Rattle.media.specs.Stream.{Stream, bareStream, rtpmapWord, fmtpWord, ptimeWord}
+use Rattle.media.specs.Attributes.{fitting, withRtpmap, withFmtp, mediaOf, rtpmapOf, fmtpOf, ptimeOf, attributeOf}
+use Rattle.media.specs.Meaning.{spansOf, textsBy, streamBy, takenBy}
+use Rattle.media.proofs.TextsLaws.{map-snoc}
+
+-- ---- the media line
+-- n, the number of tokens, against that of a media line
+module _ (n : ℕ) (t : List ℕ) (e : n ≡ tokenCount t) where
+  pub four : n ≡ 4 → eqb (tokenCount t) 4 ≡ true
+  four h = rw (← e) (eq-eqb n 4 h)
+
+  pub not-four : (n ≡ 4 → ⊥) → eqb (tokenCount t) 4 ≡ false
+  not-four h = rw (← e) (ne-eqb n 4 h)
+
+-- the stream of a media line with the media a, at sp, and the transport b, at r
+pub media-stored : (m : List ℕ) (sp r : Span) (a b : List ℕ) (port payload : ℕ) → textOf m sp ≡ a → textOf m r ≡ b
+    → streamBy m (record {
+      media = sp;
+      port = port;
+      transport = r;
+      payload = payload;
+      rtpmap = record { at = 0; len = 0 };
+      fmtp = record { count = 0; first = record { at = 0; len = 0 }; second = record { at = 0; len = 0 }; third = record { at = 0; len = 0 } };
+      ptime = 0;
+    })
+    ≡ bareStream a port b payload
+unfolding streamBy textsBy spansOf textOf
+media-stored m sp r a b port payload p q = rw (p, q)
+
+-- a media line with its four tokens, and its stream y
+pub media-read : (m t : List ℕ) (n : ℕ) (z w : Number) (port payload : ℕ) (y : Places)
+    → streamBy m y ≡ bareStream (token 0 t) port (token 2 t) payload → 1 ≤ port → payload ≤ 127
+    → z ≡ readNumber (token 1 t) → z ≡ Value port → w ≡ readNumber (token 3 t) → w ≡ Value payload → n ≡ tokenCount t → n ≡ 4
+    → takenBy m (TakenStream y) ≡ mediaOf t
+unfolding mediaOf onNumber takenBy
+media-read m t n z w port payload y p l o f g h k c e =
+    rw (four n t c e, ← f, g, ← h, k, le-leb 1 port l, le-leb payload 127 o, p)
+
+-- ---- the attributes
+-- i, the test for an empty text, where that text is a
+module _ (m : List ℕ) (sp : Span) (a : List ℕ) (p : textOf m sp ≡ a) (i : Bool) (e : i ≡ eqb (length (textOf m sp)) 0) where
+  is-none : i ≡ true → ltb 0 (length a) ≡ false
+  is-none h = rw (← p) (le-ltb 0 (length (textOf m sp)) (omega (arith, eqb-true (length (textOf m sp)) 0 (sym e ∙ h))))
+
+  is-some : i ≡ false → ltb 0 (length a) ≡ true
+  is-some h = rw (← p) (lt-ltb 0 (length (textOf m sp)) (omega (arith, eqb-false (length (textOf m sp)) 0 (sym e ∙ h))))
+
+-- a first rtpmap line with the media line's payload: i and j are the tests for the text before and for the new one, at sp
+module _ (m t : List ℕ) (s : Places) (sp : Span) (i j : Bool) (z : Number) (n : ℕ)
+    (e : i ≡ eqb (length (textOf m (s .rtpmap))) 0) (h : i ≡ true) (f : z ≡ readNumber (token 0 t)) (g : z ≡ Value n) (k : n ≡ s .payload)
+    (p : textOf m sp ≡ behindBlank t) (q : j ≡ eqb (length (textOf m sp)) 0) where
+  pub rtpmap-empty : j ≡ true → takenBy m Wrong ≡ rtpmapOf (streamBy m s) t
+  unfolding rtpmapOf onNumber takenBy streamBy
+  rtpmap-empty l = rw (← e, h, ← f, g, eq-eqb n (s .payload) k, is-none m sp (behindBlank t) p j q l)
+
+  pub rtpmap-read : (y : Option Stream) → j ≡ false
+      → y ≡ fitting (streamBy m (record {
+        media = s .media;
+        port = s .port;
+        transport = s .transport;
+        payload = s .payload;
+        rtpmap = sp;
+        fmtp = s .fmtp;
+        ptime = s .ptime;
+      }))
+      → y ≡ rtpmapOf (streamBy m s) t
+  unfolding rtpmapOf onNumber withRtpmap streamBy
+  rtpmap-read y l r = rw (← e, h, ← f, g, eq-eqb n (s .payload) k, is-some m sp (behindBlank t) p j q l, ← p) r
+
+-- one fmtp line more
+pub fmtp-stored : (m : List ℕ) (s : Places) (y : Option Stream) (x : Texts) (sp : Span) → spansOf x ≡ spansOf (s .fmtp) ++ (sp ∷ [])
+    → y ≡ fitting (streamBy m (record {
+      media = s .media;
+      port = s .port;
+      transport = s .transport;
+      payload = s .payload;
+      rtpmap = s .rtpmap;
+      fmtp = x;
+      ptime = s .ptime;
+    }))
+    → y ≡ fitting (withFmtp (textOf m sp) (streamBy m s))
+unfolding streamBy withFmtp textsBy
+fmtp-stored m s y x sp p q = rw (← map-snoc (textOf m) (spansOf (s .fmtp)) sp, ← p) q
+
+-- ---- an attribute by its word; a is the text of v
+module _ (m a : List ℕ) (v : Span) (st : Stream) (y : Option Stream) (e : a ≡ textOf m v) where
+  -- the text of w is what stands behind n octets
+  behind : (n : ℕ) (w : Span) → textOf m w ≡ drop n (textOf m v) → textOf m w ≡ drop n a
+  behind n w p = p ∙ ap (drop n) (sym e)
+
+  module _ (i : Bool) (f : i ≡ begins rtpmapWord a) where
+    pub by-rtpmap : (w : Span) (t : List ℕ) → i ≡ true → textOf m w ≡ drop 7 (textOf m v) → t ≡ textOf m w → y ≡ rtpmapOf st t → y ≡ attributeOf st (textOf m v)
+    unfolding attributeOf
+    by-rtpmap w t h p q r = rw (← e, ← f, h) (r ∙ ap (rtpmapOf st) (q ∙ behind 7 w p))
+
+    module _ (h : i ≡ false) (j : Bool) (g : j ≡ begins fmtpWord a) where
+      pub by-fmtp : (w : Span) → j ≡ true → textOf m w ≡ drop 5 (textOf m v) → y ≡ fmtpOf st (textOf m w) → y ≡ attributeOf st (textOf m v)
+      unfolding attributeOf
+      by-fmtp w k p r = rw (← e, ← f, h, ← g, k) (r ∙ ap (fmtpOf st) (behind 5 w p))
+
+      module _ (k : j ≡ false) (o : Bool) (u : o ≡ begins ptimeWord a) where
+        pub by-ptime : (t : List ℕ) → o ≡ true → t ≡ drop 6 a → y ≡ ptimeOf st t → y ≡ attributeOf st (textOf m v)
+        unfolding attributeOf
+        by-ptime t l q r = rw (← e, ← f, h, ← g, k, ← u, l) (r ∙ ap (ptimeOf st) q)
+
+        pub by-none : o ≡ false → y ≡ some st → y ≡ attributeOf st (textOf m v)
+        unfolding attributeOf
+        by-none l r = rw (← e, ← f, h, ← g, k, ← u, l) r
+
+pub ruleset byWord = (by-rtpmap, by-fmtp, by-ptime, by-none)

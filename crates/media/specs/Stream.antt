@@ -1,0 +1,79 @@
+-- Document 01, "Message, version 1": what a media line and the attributes behind it say, as one record, and the texts of
+-- these lines. Each of them has one form in which it is read and written, so the text of a line follows from what it says.
+use Prim.Native.Nat.{ℕ, _+_}
+use mathlib.Core.List.{List, [], _∷_, _++_, map}
+use mathlib.Core.Bool.{Bool, cond}
+use lib.ListN.{length}
+use lib.Dec.{eqb, leb}
+use Rattle.octets.specs.Append.{numberText}
+
+pub record Stream : Type 0 where
+  pub media : List ℕ
+  pub port : ℕ
+  pub transport : List ℕ
+  pub payload : ℕ
+  -- the text behind the payload and its blank; empty where there is no such line, since a text is not
+  pub rtpmap : List ℕ
+  -- the texts behind `a=fmtp:`, in order
+  pub fmtp : List (List ℕ)
+  -- 0 where there is none, since a packet time is not 0
+  pub ptime : ℕ
+
+-- what a media line says by itself
+abbrev pub bareStream : List ℕ → ℕ → List ℕ → ℕ → Stream
+bareStream media port transport payload = record {
+  media = media;
+  port = port;
+  transport = transport;
+  payload = payload;
+  rtpmap = [];
+  fmtp = [];
+  ptime = 0;
+}
+
+-- what stands behind `m=`: media, port, transport and payload, with one blank (32) between two
+unfoldable pub mediaText : Stream → List ℕ
+mediaText s = s .media ++ (32 ∷ (numberText (s .port) ++ (32 ∷ (s .transport ++ (32 ∷ numberText (s .payload))))))
+
+-- ---- the texts of the attributes' lines, without their ends
+-- "rtpmap:", "fmtp:" and "ptime:"
+abbrev pub rtpmapWord : List ℕ
+rtpmapWord = 114 ∷ 116 ∷ 112 ∷ 109 ∷ 97 ∷ 112 ∷ 58 ∷ []
+
+abbrev pub fmtpWord : List ℕ
+fmtpWord = 102 ∷ 109 ∷ 116 ∷ 112 ∷ 58 ∷ []
+
+abbrev pub ptimeWord : List ℕ
+ptimeWord = 112 ∷ 116 ∷ 105 ∷ 109 ∷ 101 ∷ 58 ∷ []
+
+-- "a=" and what stands behind it
+unfoldable pub attributeText : List ℕ → List ℕ
+attributeText a = 97 ∷ 61 ∷ a
+
+-- the payload, one blank (32), and the text
+unfoldable pub rtpmapText : ℕ → List ℕ → List ℕ
+rtpmapText payload text = attributeText (rtpmapWord ++ (numberText payload ++ (32 ∷ text)))
+
+unfoldable pub fmtpText : List ℕ → List ℕ
+fmtpText text = attributeText (fmtpWord ++ text)
+
+unfoldable pub ptimeText : ℕ → List ℕ
+ptimeText n = attributeText (ptimeWord ++ numberText n)
+
+-- ---- the limit of the rtpmap and fmtp lines together
+abbrev pub mostAttributes : ℕ
+mostAttributes = 256
+
+unfoldable pub rtpmapLines : Stream → List (List ℕ)
+rtpmapLines s = cond (eqb (length (s .rtpmap)) 0) [] (rtpmapText (s .payload) (s .rtpmap) ∷ [])
+
+unfoldable pub fmtpLines : Stream → List (List ℕ)
+fmtpLines s = map fmtpText (s .fmtp)
+
+-- the octets of several lines together
+unfoldable pub octetsTogether : List (List ℕ) → ℕ
+octetsTogether [] = 0
+octetsTogether (t ∷ ts) = length t + octetsTogether ts
+
+unfoldable pub attributesFit : Stream → Bool
+attributesFit s = leb (octetsTogether (rtpmapLines s ++ fmtpLines s)) mostAttributes

@@ -1,0 +1,15 @@
+-- `all_plain` meets its contract: no octet ends the plain part before the end.
+-- Assumes nothing.
+use borrow.Author.Needs.{needs}
+use Rattle.sdp.proofs.all_plain.Statement.{statement}
+use Rattle.sdp.proofs.all_plain.Tie as tie
+use Rattle.sdp.proofs.EndLaws.{plain-all}
+
+plain-length-requires : tie.Need-plain-length-requires
+plain-length-requires c κs = search needs
+
+returns : tie.Need-returns
+returns c = search (plain-all, needs)
+
+pub all-plain-spec : {M : Type 1} → statement M
+all-plain-spec = tie.close (tie.spec plain-length-requires returns)

@@ -1,0 +1,47 @@
+-- One line after another: the line at the front of a text, and what `Line` stands for. `lines` and `inLines` follow from it
+-- (`CutLaws`).
+use Prim.Native.Nat.{ℕ, _+_, _≤_}
+use mathlib.Core.Path.{_≡_}
+use mathlib.Core.List.{List, [], _∷_}
+use mathlib.Core.Bool.{_&&_, cond}
+use mathlib.Core.Option.{Option, none, some}
+use lib.ListN.{length, drop}
+use lib.Dec.{leb}
+use Rattle.octets.specs.Split.{has, before}
+use Rattle.octets.specs.Spans.{textOf, inside}
+use Rattle.sdp.specs.Lines.{withoutCr, isPlain, isLine}
+use Rattle.sdp.specs.declared.Line.{Line}
+use Rattle.sdp.specs.declared.Line.the-variants.{Text, NoLine}
+
+pub data Front : Type 0 where
+  -- a line, and all that stands behind its end
+  line : List ℕ → List ℕ → Front
+  -- what is no line, or has no end, or nothing at all
+  noLine : Front
+
+-- the line at the front of s
+unfoldable pub firstLine : List ℕ → Front
+firstLine s =
+    cond (has 10 s && isLine (withoutCr (before 10 s)))
+    (line (withoutCr (before 10 s)) (drop (length (before 10 s) + 1) s))
+    noLine
+
+-- What a `Line` stands for in m: its span lies inside m, and so does the place behind its end.
+unfoldable pub lineIn : List ℕ → Line → Option Front
+lineIn m (Text sp next) = cond (inside m sp && leb next (length m)) (some (line (textOf m sp) (drop next m))) none
+lineIn m NoLine = some noLine
+
+-- For functions that are not public: what of s stands before its first 0, CR or LF.
+unfoldable pub plainPart : List ℕ → List ℕ
+plainPart [] = []
+plainPart (b ∷ bs) = cond (isPlain b) (b ∷ plainPart bs) []
+
+-- r is how many octets that has; the bound follows, and is here for callers
+pub record PlainLength (s : List ℕ) (r : ℕ) : Type 0 where
+  pub is : r ≡ length (plainPart s)
+  pub most : r ≤ length s
+
+-- r is the place behind that part of what stands at i; the bound follows, and is here for callers
+pub record Ends (m : List ℕ) (i r : ℕ) : Type 0 where
+  pub is : r ≡ i + length (plainPart (drop i m))
+  pub low : i ≤ r

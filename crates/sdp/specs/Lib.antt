@@ -1,0 +1,4 @@
+-- What the contracts of this crate speak of.
+pub mod Lines
+pub mod Cut
+pub mod Written

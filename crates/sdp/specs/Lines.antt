@@ -1,0 +1,55 @@
+-- Document 01, "Message, version 1": the lines that a message is made of (RFC 4566), and what of number 9 is about lines.
+use Prim.Native.Nat.{ℕ}
+use mathlib.Core.List.{List, [], _∷_}
+use mathlib.Core.Bool.{Bool, true, false, not, _&&_, cond}
+use lib.ListN.{length}
+use lib.Dec.{eqb, leb}
+use Rattle.octets.specs.Split.{splitOn}
+
+-- ---- a line ends in LF (10), or in CR (13) and LF; so does the last
+-- p less a CR at its end
+unfoldable pub withoutCr : List ℕ → List ℕ
+withoutCr [] = []
+withoutCr (b ∷ []) = cond (eqb b 13) [] (b ∷ [])
+withoutCr (b ∷ c ∷ bs) = b ∷ withoutCr (c ∷ bs)
+
+-- of the parts between LFs, those that an LF ends, less the CR before it
+unfoldable pub endedParts : List (List ℕ) → List (List ℕ)
+endedParts [] = []
+endedParts (p ∷ []) = []
+endedParts (p ∷ q ∷ ps) = withoutCr p ∷ endedParts (q ∷ ps)
+
+-- of the parts between LFs, the one that no LF ends
+unfoldable pub lastPart : List (List ℕ) → List ℕ
+lastPart [] = []
+lastPart (p ∷ []) = p
+lastPart (p ∷ q ∷ ps) = lastPart (q ∷ ps)
+
+-- the lines of m, without their ends
+unfoldable pub lines : List ℕ → List (List ℕ)
+lines m = endedParts (splitOn 10 m)
+
+-- nothing stands behind the last LF
+unfoldable pub allEnded : List ℕ → Bool
+allEnded m = eqb (length (lastPart (splitOn 10 m))) 0
+
+-- ---- a line is a lower-case letter, `=` (61), and octets that are not 0, CR or LF
+unfoldable pub isPlain : ℕ → Bool
+isPlain b = not (eqb b 0) && (not (eqb b 13) && not (eqb b 10))
+
+unfoldable pub allPlain : List ℕ → Bool
+allPlain [] = true
+allPlain (b ∷ bs) = isPlain b && allPlain bs
+
+unfoldable pub isLine : List ℕ → Bool
+isLine [] = false
+isLine (a ∷ []) = false
+isLine (a ∷ e ∷ v) = leb 97 a && (leb a 122 && (eqb e 61 && allPlain v))
+
+unfoldable pub allLines : List (List ℕ) → Bool
+allLines [] = true
+allLines (t ∷ ts) = isLine t && allLines ts
+
+-- m is made of such lines
+unfoldable pub inLines : List ℕ → Bool
+inLines m = allEnded m && allLines (lines m)
