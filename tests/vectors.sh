@@ -1,7 +1,8 @@
 #!/usr/bin/env bash
-# vectors.sh [PROGRAM]: runs every tests/vectors/MODE.in through inspect, each line behind its mode
-# word, and compares what comes out with MODE.out. PROGRAM is the built inspect, target/bin/inspect
-# unless given; tests/model.py can be given too. Ends with status 1 where a line differs.
+# vectors.sh [PROGRAM [MODE..]]: runs tests/vectors/MODE.in through inspect, for these modes or for all,
+# each line behind its mode word, and compares what comes out with MODE.out. PROGRAM is the built inspect,
+# target/bin/inspect unless given; tests/model.py can be given too, with the modes elements and rewrite.
+# Ends with status 1 where a line differs.
 set -u
 program=$(realpath -m "${1:-$(dirname "$0")/../target/bin/inspect}")
 cd "$(dirname "$0")/.." || exit 2
@@ -12,8 +13,14 @@ fi
 got=$(mktemp)
 trap 'rm -f "$got"' EXIT
 status=0
-for in in tests/vectors/*.in; do
-    mode=$(basename "$in" .in)
+modes=("${@:2}")
+if [ ${#modes[@]} -eq 0 ]; then
+    for in in tests/vectors/*.in; do
+        modes+=("$(basename "$in" .in)")
+    done
+fi
+for mode in "${modes[@]}"; do
+    in=tests/vectors/$mode.in
     want=tests/vectors/$mode.out
     sed "s/^/$mode /" "$in" | "$program" > "$got"
     if cmp -s "$got" "$want"; then

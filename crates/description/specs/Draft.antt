@@ -15,7 +15,7 @@ use Rattle.address.specs.declared.Parsed.the-variants.{Unreadable}
 use Rattle.address.specs.Kinds.{onParsed}
 use Rattle.address.specs.Ipv4.{readV4}
 use Rattle.address.specs.Ipv6.{readV6}
-use Rattle.media.specs.Stream.{Stream}
+use Rattle.media.specs.Stream.{Stream, bareStream}
 use Rattle.media.specs.Attributes.{mediaOf, isAttribute, attributeOf}
 
 pub record Draft : Type 0 where
@@ -28,7 +28,7 @@ pub record Draft : Type 0 where
 
 -- before the first line
 unfoldable pub start : Draft
-start = record { had = 0; address = V4 0; stream = record { media = []; port = 0; transport = []; payload = 0; rtpmap = []; fmtp = []; ptime = 0 } }
+start = record { had = 0; address = V4 0; stream = bareStream [] 0 [] 0 }
 
 -- ---- the needed lines: once each, and in this order; v is what stands behind the letter and `=`
 unfoldable pub reached : ℕ → Draft → Draft
@@ -104,8 +104,8 @@ unfoldable pub attributeLine : Draft → List ℕ → Option Draft
 attributeLine d a =
     cond (begins ipbcpWord a) (ipbcpLine d)
     (cond (isAttribute a)
-        (cond (eqb (d .had) 7) (Option·map (withStream d) (attributeOf (d .stream) a)) none)
-        (some d))
+    (cond (eqb (d .had) 7) (Option·map (withStream d) (attributeOf (d .stream) a)) none)
+    (some d))
 
 -- ---- any line
 -- i, u, e, p, b, z, k and r

@@ -2,22 +2,19 @@
 -- longer. Its fields are in range, so each line has a greatest length, and these add up to 447.
 -- Assumes nothing.
 use Prim.Native.Nat.{ℕ, zero, suc, _+_, _*_, _/_, _^_, _≤_, _<_}
-use mathlib.Core.Path.{_≡_, refl, ap, _∙_}
+use mathlib.Core.Path.{_≡_, refl, ap}
 use mathlib.Core.List.{List, [], _∷_, _++_, map}
 use mathlib.Core.Bool.{true, and-eq-true-iff}
 use lib.ListN.{length, length-append}
-use lib.Dec.{eqb}
 use native.Mathlib.Nat.{pow-suc}
 use native.Mathlib.Omega.{arith}
 use borrow.Author.Tests.{eq-eqb, ne-eqb}
 use Rattle.octets.specs.Append.{widthFrom, numberText}
-use Rattle.octets.specs.Decimal.{lastDigits}
 use Rattle.octets.proofs.AppendLaws.{width-one, width-suc, length-last}
 use Rattle.octets.proofs.CaseLaws.{by-lt, by-eq}
 use Rattle.sdp.specs.Written.{lineText, linesText}
 use Rattle.address.specs.declared.Address.{Address}
 use Rattle.address.specs.declared.Address.the-variants.{V4, V6}
-use Rattle.address.specs.Canonical.{addressText}
 use Rattle.address.proofs.Lengths.{length-address}
 use Rattle.media.specs.Stream.{Stream, mediaText, ptimeWord, attributeText, ptimeText, rtpmapLines, fmtpText, fmtpLines, octetsTogether}
 use Rattle.ipbcp.specs.declared.Kind.{Kind}

@@ -1,10 +1,10 @@
 -- Laws of reading a message: each line moves the draft, and each answer is the definition's.
 -- Assumes nothing.
 use Prim.Native.Nat.{ℕ, _≤_, _<_}
-use mathlib.Core.Path.{_≡_, refl, sym, ap, _∙_}
-use mathlib.Core.List.{List, [], _∷_}
-use mathlib.Core.Bool.{Bool, true, false, cond}
-use mathlib.Core.Option.{Option, none, some, Option·map, Option·elim}
+use mathlib.Core.Path.{_≡_, refl, sym, _∙_}
+use mathlib.Core.List.{List}
+use mathlib.Core.Bool.{Bool, true, false}
+use mathlib.Core.Option.{Option, none, some, Option·elim}
 use lib.ListN.{length, drop}
 use native.Mathlib.Omega.{arith}
 use borrow.Author.Tests.{le-leb, lt-leb, eq-eqb, ne-eqb}
@@ -17,7 +17,7 @@ use Rattle.sdp.specs.Lines.{lines, inLines}
 use Rattle.sdp.specs.Cut.{firstLine, lineIn}
 use Rattle.sdp.proofs.CutLaws.{loop-lines, loop-inLines, loop-none, loop-end}
 use Rattle.media.specs.declared.Stream.{Stream as Places}
-use Rattle.media.specs.Meaning.{streamBy, streamIn, KeptInside}
+use Rattle.media.specs.Meaning.{streamIn, KeptInside}
 use Rattle.description.specs.declared.Draft.{Draft as DraftPlaces}
 use Rattle.description.specs.declared.Step.{Step}
 use Rattle.description.specs.declared.Step.the-variants.{Go, Wrong}
@@ -28,8 +28,8 @@ use Rattle.ipbcp.specs.declared.Head.{Head}
 use Rattle.ipbcp.specs.declared.Head.the-variants.{Typed, Untyped}
 use Rattle.ipbcp.specs.declared.Message.{Message}
 use Rattle.ipbcp.specs.declared.Message.the-variants as answer
-use Rattle.ipbcp.specs.Types.{firstHead, headIn}
-use Rattle.ipbcp.specs.Reading.{Reading, refused, typed, described, linesOf, finish, isDescribed, byHead, mostOctets, readMessage}
+use Rattle.ipbcp.specs.Types.{headIn}
+use Rattle.ipbcp.specs.Reading.{linesOf, finish, isDescribed, byHead, readMessage}
 use Rattle.ipbcp.specs.Meaning.{readingIn}
 
 -- ---- a type that the code has matched

@@ -1,24 +1,23 @@
 -- What is written is read back: a message is cut into the lines that it was put together from, and each of them is read as
 -- what it was written for.
 -- Assumes nothing.
-use Prim.Native.Nat.{ℕ, suc, _+_, _≤_, _<_}
+use Prim.Native.Nat.{ℕ, _+_, _≤_}
 use mathlib.Core.Path.{_≡_, refl, sym, ap, _∙_}
 use mathlib.Core.List.{List, [], _∷_, _++_, map, append-assoc, append-nil}
-use mathlib.Core.Bool.{Bool, true, false, not, _&&_, _||_, cond, and-eq-true-iff}
-use mathlib.Core.Option.{Option, none, some, Option·map, Option·elim}
+use mathlib.Core.Bool.{true, false, _&&_, and-eq-true-iff}
+use mathlib.Core.Option.{Option, none, some, Option·elim}
 use lib.ListN.{length, drop, length-append}
-use lib.Dec.{eqb, leb, ltb}
+use lib.Dec.{leb}
 use native.Mathlib.Omega.{arith}
-use borrow.Author.Tests.{le-leb, lt-ltb, eq-eqb, ne-eqb, leb-true, ltb-true, eqb-true}
+use borrow.Author.Tests.{le-leb, lt-ltb, eq-eqb, ne-eqb, leb-true}
 use Rattle.octets.specs.Append.{numberText}
 use Rattle.octets.specs.Decimal.{isDigit, allDigits, valueFrom, shortest, numberFrom, readNumber, onNumber}
-use Rattle.octets.specs.Split.{has, onFirst, splitOn, partOf}
+use Rattle.octets.specs.Split.{onFirst, splitOn, partOf}
 use Rattle.octets.specs.Words.{begins, same, digitRun}
 use Rattle.octets.proofs.CaseLaws.{by-bool, by-eq}
 use Rattle.texts.specs.Tokens.{noneEmpty, tokenCount}
-use Rattle.sdp.specs.Lines.{isPlain, allPlain, isLine, allLines, lines, inLines}
+use Rattle.sdp.specs.Lines.{lines}
 use Rattle.sdp.specs.Written.{linesText}
-use Rattle.sdp.proofs.PlainLaws.{plain-append, line-is}
 use Rattle.sdp.proofs.WrittenLines.{lines-written, inLines-written}
 use Rattle.address.specs.declared.Address.{Address}
 use Rattle.address.specs.declared.Address.the-variants.{V4, V6}
@@ -28,16 +27,16 @@ use Rattle.address.specs.Canonical.{addressText}
 use Rattle.address.proofs.RoundTrip.{fits, readLike, address-back}
 use Rattle.address.proofs.Lengths.{address-some}
 use Rattle.address.proofs.Visible.{address-has}
-use Rattle.media.specs.Stream.{Stream, bareStream, mediaText, rtpmapWord, fmtpWord, ptimeWord, attributeText, rtpmapText, fmtpText, ptimeText, mostAttributes, rtpmapLines, fmtpLines, octetsTogether, attributesFit}
+use Rattle.media.specs.Stream.{Stream, mediaText, rtpmapWord, fmtpWord, ptimeWord, attributeText, rtpmapText, fmtpText, ptimeText, rtpmapLines, fmtpLines, octetsTogether, attributesFit}
 use Rattle.media.specs.Attributes.{fitting, withRtpmap, withFmtp, withPtime, isAttribute, attributeOf}
-use Rattle.media.proofs.BackLaws.{number-has, split-whole, media-back, rtpmap-back, fmtp-back, ptime-back}
-use Rattle.description.specs.Draft.{Draft, start, reached, needed, versionLine, inWord, ip4Word, ip6Word, isOrigin, originLine, sessionLine, addressOf, connectionOf, withAddress, connectionLine, isTime, timeLine, ipbcpLine, withStream, mediaLine, ipbcpWord, attributeLine, fieldOf, lineOf}
+use Rattle.media.proofs.BackLaws.{split-whole, media-back, rtpmap-back, fmtp-back, ptime-back}
+use Rattle.description.specs.Draft.{Draft, start, reached, needed, versionLine, inWord, isOrigin, originLine, sessionLine, addressOf, connectionOf, withAddress, connectionLine, isTime, timeLine, ipbcpLine, withStream, mediaLine, ipbcpWord, attributeLine, fieldOf, lineOf}
 use Rattle.ipbcp.specs.declared.Kind.{Kind}
 use Rattle.ipbcp.specs.declared.Kind.the-variants.{Request, Accepted, Confused, Rejected}
 use Rattle.ipbcp.specs.declared.Head.the-variants.{Typed}
-use Rattle.ipbcp.specs.Types.{ipbcpStart, wordOf, kindOf, headOf, withoutBlank, firstHead, headIn}
-use Rattle.ipbcp.specs.Reading.{Reading, typed, described, linesOf, finish, isDescribed, byHead, mostOctets, readMessage}
-use Rattle.ipbcp.specs.Writing.{Content, request, accepted, confused, rejected, familyWord, hostText, versionText, originText, sessionText, connectionText, timeText, ipbcpText, ptimeLines, streamLines, kindIn, mediaLines, messageLines, messageText, isToken, allTextsPlain, rightMedia, rightAttributes, rightContent, mostWritten, octetsOf, readingOf}
+use Rattle.ipbcp.specs.Types.{wordOf, kindOf, headOf, withoutBlank, firstHead, headIn}
+use Rattle.ipbcp.specs.Reading.{described, linesOf, finish, isDescribed, byHead, readMessage}
+use Rattle.ipbcp.specs.Writing.{Content, request, accepted, confused, rejected, familyWord, hostText, versionText, originText, sessionText, connectionText, timeText, ipbcpText, ptimeLines, streamLines, kindIn, mediaLines, messageLines, messageText, rightMedia, rightAttributes, rightContent, octetsOf, readingOf}
 use Rattle.ipbcp.proofs.WrittenLaws.{media-parts, token-parts, attribute-parts, together-append, map-append, message-lines}
 
 -- ---- version and type
@@ -243,11 +242,11 @@ octets-are own c t e =
     let m = messageText own c in
     by-bool (isUnicast own && (rightContent c && leb (length m) 447)) _
     (λ h.
-        let a = and-eq-true-iff (isUnicast own) (rightContent c && leb (length m) 447) .0 h in
-        let b = and-eq-true-iff (rightContent c) (leb (length m) 447) .0 (a .1) in
-        let q : some m ≡ some t = rw h at e in
-        let z : m ≡ t = cc in
-        (a .0, b .0, rw (← z) (leb-true (length m) 447 (b .1)), sym z))
+    let a = and-eq-true-iff (isUnicast own) (rightContent c && leb (length m) 447) .0 h in
+    let b = and-eq-true-iff (rightContent c) (leb (length m) 447) .0 (a .1) in
+    let q : some m ≡ some t = rw h at e in
+    let z : m ≡ t = cc in
+    (a .0, b .0, rw (← z) (leb-true (length m) 447 (b .1)), sym z))
     (λ h. let q : none ≡ some t = rw h at e in absurd (let z : _≡_ {A = ℕ} 0 1 = cc in omega arith))
 
 -- Every message that can be written is read as what was written.

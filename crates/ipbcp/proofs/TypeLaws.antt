@@ -1,10 +1,10 @@
 -- Laws of the version and the type: each line that is no ipbcp line leaves the first one to the lines behind it.
 -- Assumes nothing.
-use Prim.Native.Nat.{ℕ, _+_, _-_, _≤_, _<_}
+use Prim.Native.Nat.{ℕ, _-_, _≤_, _<_}
 use mathlib.Core.Path.{_≡_, refl, sym, ap, _∙_}
 use mathlib.Core.List.{List, [], _∷_}
 use mathlib.Core.Bool.{Bool, true, false, cond}
-use mathlib.Core.Option.{Option, none, some, Option·elim}
+use mathlib.Core.Option.{none, some, Option·elim}
 use lib.ListN.{length, getD, take, drop}
 use native.Mathlib.Omega.{arith}
 use borrow.Author.Tests.{le-leb, lt-leb, eq-eqb, ne-eqb}
@@ -19,7 +19,7 @@ use Rattle.texts.specs.Tokens.{token, tokenCount}
 use Rattle.texts.proofs.TokenLaws.{tokens-are, tokens-arent}
 use Rattle.sdp.specs.declared.Line.{Line}
 use Rattle.sdp.specs.declared.Line.the-variants.{Text, NoLine}
-use Rattle.sdp.specs.Lines.{lines, inLines}
+use Rattle.sdp.specs.Lines.{inLines}
 use Rattle.sdp.specs.Cut.{firstLine, lineIn}
 use Rattle.sdp.proofs.CutLaws.{loop-lines, loop-inLines, loop-none, loop-end}
 use Rattle.ipbcp.specs.declared.Kind.{Kind}

@@ -133,10 +133,10 @@ media-plain s h =
     let (_, _, q) = token-parts (s .transport) d in
     let last : allPlain (32 ∷ numberText (s .payload)) ≡ true = blank-plain (numberText (s .payload)) (number-plain (s .payload)) in
     let behind : allPlain (32 ∷ (s .transport ++ (32 ∷ numberText (s .payload)))) ≡ true =
-        blank-plain (s .transport ++ (32 ∷ numberText (s .payload))) (plain-both (s .transport) (32 ∷ numberText (s .payload)) q last) in
+    blank-plain (s .transport ++ (32 ∷ numberText (s .payload))) (plain-both (s .transport) (32 ∷ numberText (s .payload)) q last) in
     let port : allPlain (32 ∷ (numberText (s .port) ++ (32 ∷ (s .transport ++ (32 ∷ numberText (s .payload)))))) ≡ true =
-        blank-plain (numberText (s .port) ++ (32 ∷ (s .transport ++ (32 ∷ numberText (s .payload)))))
-        (plain-both (numberText (s .port)) (32 ∷ (s .transport ++ (32 ∷ numberText (s .payload)))) (number-plain (s .port)) behind) in
+    blank-plain (numberText (s .port) ++ (32 ∷ (s .transport ++ (32 ∷ numberText (s .payload)))))
+    (plain-both (numberText (s .port)) (32 ∷ (s .transport ++ (32 ∷ numberText (s .payload)))) (number-plain (s .port)) behind) in
     line-is 109 (s .media ++ (32 ∷ (numberText (s .port) ++ (32 ∷ (s .transport ++ (32 ∷ numberText (s .payload))))))) refl
     (plain-both (s .media) (32 ∷ (numberText (s .port) ++ (32 ∷ (s .transport ++ (32 ∷ numberText (s .payload)))))) p port)
 
@@ -158,10 +158,10 @@ rtpmap-line s p =
     by-bool (eqb (length (s .rtpmap)) 0) _
     (λ e. rw e no-lines)
     (λ e. rw e
-        (lines-cons (attributeText (rtpmapWord ++ (numberText (s .payload) ++ (32 ∷ s .rtpmap)))) []
-        (attribute-line rtpmapWord (numberText (s .payload) ++ (32 ∷ s .rtpmap)) rtpmap-word
-        (plain-both (numberText (s .payload)) (32 ∷ s .rtpmap) (number-plain (s .payload)) (blank-plain (s .rtpmap) p)))
-        no-lines))
+    (lines-cons (attributeText (rtpmapWord ++ (numberText (s .payload) ++ (32 ∷ s .rtpmap)))) []
+    (attribute-line rtpmapWord (numberText (s .payload) ++ (32 ∷ s .rtpmap)) rtpmap-word
+    (plain-both (numberText (s .payload)) (32 ∷ s .rtpmap) (number-plain (s .payload)) (blank-plain (s .rtpmap) p)))
+    no-lines))
 
 fmtp-line : (ts : List (List ℕ)) → allTextsPlain ts ≡ true → allLines (map fmtpText ts) ≡ true
 unfolding allTextsPlain fmtpText

@@ -1,7 +1,7 @@
 -- Document 01, "Message, version 1": the version and the type of a message, and number 9.
 use Prim.Native.Nat.{ℕ}
 use mathlib.Core.List.{List, [], _∷_}
-use mathlib.Core.Bool.{Bool, _&&_, cond}
+use mathlib.Core.Bool.{cond}
 use mathlib.Core.Option.{Option, none, some, Option·elim}
 use lib.ListN.{drop}
 use lib.Dec.{eqb, leb}
@@ -38,8 +38,8 @@ unfoldable pub headOf : List ℕ → Head
 headOf s =
     cond (eqb (tokenCount s) 2)
     (onNumber (readNumber (token 0 s))
-        (λ n. cond (leb n 255) (Option·elim (kindOf (token 1 s)) Untyped (λ k. Typed n k)) Untyped)
-        Untyped)
+    (λ n. cond (leb n 255) (Option·elim (kindOf (token 1 s)) Untyped (λ k. Typed n k)) Untyped)
+    Untyped)
     Untyped
 
 -- s less a blank (32) at its start, of which there may be one

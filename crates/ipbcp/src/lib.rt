@@ -42,7 +42,10 @@ pub enum Message {
     // A refusal's number.
     Refused(u8),
     // Another version, or a Confused or Rejected: nothing more is read.
-    Typed { version: u8, kind: Kind },
+    Typed {
+        version: u8,
+        kind: Kind,
+    },
     // A Request or Accepted of version 1. The texts of the stream are places in the message.
     Described {
         kind: Kind,

@@ -1,7 +1,7 @@
 // The version and the type of a message.
 ghost use mathlib.Core.Path.{_≡_};
 ghost use Rattle.octets.specs.Words.{begins};
-ghost use Rattle.ipbcp.specs.Types.{ipbcpStart, wordOf, kindOf, headOf, withoutBlank, headIn};
+ghost use Rattle.ipbcp.specs.Types.{ipbcpStart, kindOf, headOf, withoutBlank, headIn};
 ghost use Rattle.ipbcp.specs.Meaning.{wordIn};
 use crate::Head;
 use crate::Kind;

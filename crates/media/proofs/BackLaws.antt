@@ -105,18 +105,6 @@ module _ (s : Stream) (a : has 32 (s .media) ≡ false) (b : has 32 (s .transpor
       ))
 
 -- ---- the attributes
-pub rtpmap-is : (t : List ℕ) → isAttribute (rtpmapWord ++ t) ≡ true
-unfolding isAttribute begins
-rtpmap-is t = refl
-
-pub fmtp-is : (t : List ℕ) → isAttribute (fmtpWord ++ t) ≡ true
-unfolding isAttribute begins
-fmtp-is t = refl
-
-pub ptime-is : (t : List ℕ) → isAttribute (ptimeWord ++ t) ≡ true
-unfolding isAttribute begins
-ptime-is t = refl
-
 pub rtpmap-back : (s : Stream) (text : List ℕ) → s .rtpmap ≡ [] → 0 < length text → s .payload ≤ 127
     → attributeOf s (rtpmapWord ++ (numberText (s .payload) ++ (32 ∷ text))) ≡ fitting (withRtpmap text s)
 unfolding attributeOf begins rtpmapOf partOf onNumber

@@ -9,7 +9,7 @@ use lib.Dec.{eqb, leb, ltb}
 use Rattle.octets.specs.Decimal.{readNumber, onNumber}
 use Rattle.octets.specs.Words.{begins}
 use Rattle.texts.specs.Tokens.{token, tokenCount, behindBlank}
-use Rattle.media.specs.Stream.{Stream, rtpmapWord, fmtpWord, ptimeWord, attributesFit}
+use Rattle.media.specs.Stream.{Stream, bareStream, rtpmapWord, fmtpWord, ptimeWord, attributesFit}
 
 -- `m=`: media, port 1 to 65535, transport and one payload 0 to 127; a number has at most 65535 (`readNumber`)
 unfoldable pub mediaOf : List ℕ → Option Stream
@@ -18,7 +18,7 @@ mediaOf v =
     (onNumber (readNumber (token 1 v))
     (λ port. onNumber (readNumber (token 3 v))
     (λ payload. cond (leb 1 port && leb payload 127)
-    (some (record { media = token 0 v; port = port; transport = token 2 v; payload = payload; rtpmap = []; fmtp = []; ptime = 0 }))
+    (some (bareStream (token 0 v) port (token 2 v) payload))
     none)
     none)
     none)

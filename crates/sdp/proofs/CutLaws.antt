@@ -127,15 +127,8 @@ module _ (m : List ℕ) (i : ℕ) (y : Line) (w : lineIn m y ≡ some (firstLine
     bounds : (inside m sp ≡ true) × (leb n (length m) ≡ true)
     bounds = and-eq-true-iff (inside m sp) (leb n (length m)) .0 (front .0)
 
-    -- the line lies inside m
-    pub loop-span : inside m sp ≡ true
-    loop-span = bounds .0
-
     pub loop-inside : n ≤ length m
     loop-inside = leb-true n (length m) (bounds .1)
-
-    pub loop-isLine : isLine (textOf m sp) ≡ true
-    loop-isLine = isLine-first (drop i m) (textOf m sp) (drop n m) is-first
 
     pub loop-lines : lines (drop i m) ≡ textOf m sp ∷ lines (drop n m)
     loop-lines = lines-first (drop i m) (textOf m sp) (drop n m) is-first
@@ -145,9 +138,6 @@ module _ (m : List ℕ) (i : ℕ) (y : Line) (w : lineIn m y ≡ some (firstLine
 
     pub loop-falls : length m - n < length m - i
     loop-falls = omega (arith, rest-less (drop i m) (textOf m sp) (drop n m) is-first, length-drop i m, length-drop n m)
-
-    pub loop-on : i < n
-    loop-on = omega (arith, loop-falls, loop-inside)
 
   pub loop-none : y ≡ NoLine → i < length m → inLines (drop i m) ≡ false
   unfolding lineIn

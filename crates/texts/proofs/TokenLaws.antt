@@ -2,14 +2,13 @@
 -- Assumes nothing.
 use Prim.Native.Nat.{ℕ, suc, _+_, _-_, _≤_, _<_}
 use mathlib.Core.Path.{_≡_, sym, _∙_}
-use mathlib.Core.List.{List, [], _∷_}
+use mathlib.Core.List.{List}
 use mathlib.Core.Bool.{true, false, cond}
 use lib.ListN.{length, take, drop, length-drop, drop-of-length-le}
 use lib.Dec.{eqb}
 use lib.Seq.{take-all}
 use native.Mathlib.Omega.{arith}
 use borrow.Author.Tests.{lt-ltb, le-ltb, eq-eqb, ne-eqb}
-use Rattle.octets.specs.declared.Span.{Span}
 use Rattle.octets.specs.Split.{before, splitOn, findAt, Found, partOf}
 use Rattle.octets.specs.Spans.{textOf}
 use Rattle.octets.proofs.CaseLaws.{by-lt}
@@ -71,8 +70,6 @@ tokens-are n k s p q = eq-eqb (tokenCount s) k (sym p ∙ q)
 
 pub tokens-arent : (n k : ℕ) (s : List ℕ) → n ≡ tokenCount s → (n ≡ k → ⊥) → eqb (tokenCount s) k ≡ false
 tokens-arent n k s p q = ne-eqb (tokenCount s) k (λ e. q (p ∙ e))
-
-pub ruleset counted = (tokens-are, tokens-arent)
 
 -- ---- behind the first blank
 module _ (s : List ℕ) (e : ℕ) (f : Found s 32 0 e) where

@@ -1,6 +1,5 @@
 -- `start` meets its contract: nothing has been said.
 -- Assumes nothing.
-use borrow.Author.Needs.{needs}
 use Rattle.description.proofs.start.Statement.{statement}
 use Rattle.description.proofs.start.Tie as tie
 use mathlib.Core.Path.{refl}

@@ -1,0 +1,43 @@
+-- What `write_message` answers to have written is read back from the buffer as what was given: the octets at its front are those of the message, which are read so.
+-- Assumes nothing.
+use Prim.Native.Nat.{ℕ}
+use mathlib.Core.Path.{_≡_, refl, sym, ap}
+use mathlib.Core.List.{List}
+use mathlib.Core.Option.{Option, none, some}
+use lib.ListN.{length, take, drop}
+use lib.Seq.{take-at}
+use native.Mathlib.Omega.{arith}
+use Rattle.octets.specs.declared.Put.the-variants.{Octets}
+use Rattle.octets.specs.Puts.{Puts}
+use Rattle.octets.proofs.PutsLaws.{puts-no, puts-some}
+use Rattle.address.specs.declared.Address.{Address}
+use Rattle.address.proofs.RoundTrip.{fits}
+use Rattle.ipbcp.specs.declared.Body.{Body}
+use Rattle.ipbcp.specs.Reading.{readMessage}
+use Rattle.ipbcp.specs.Writing.{Content, octetsIn, readingOf}
+use Rattle.ipbcp.specs.Meaning.{contentIn}
+use Rattle.ipbcp.proofs.RoundTrip.{read-written}
+
+-- the first n octets are what there was to write
+pub puts-front : (o : Option (List ℕ)) (l : List ℕ) (n : ℕ) (f : List ℕ) → Puts o l (Octets n) f → o ≡ some (take n f)
+puts-front none l n f p = absurd (puts-no l n f p)
+puts-front (some t) l n f p =
+    let (count, leaves) = puts-some t l n f p in
+    let front : take n f ≡ t = rw leaves (take-at t (drop (length t) l) n (sym count)) in
+    ap some (sym front)
+
+-- t is a message that is read as the content o, with the own address
+pub record Said (own : Address) (o : Option Content) (t : List ℕ) : Type 0 where
+  pub content : Content
+  pub stands : o ≡ some content
+  pub reads : readMessage t ≡ readingOf own content
+
+pub said : (own : Address) → fits own → (o : Option Content) (t : List ℕ) → octetsIn own o ≡ some t → Said own o t
+unfolding octetsIn
+said own fit none t e = absurd (let z : _≡_ {A = ℕ} 0 1 = cc in omega arith)
+said own fit (some c) t e = record { content = c; stands = refl; reads = read-written own c t fit e }
+
+-- from the contract of `write_message`, where it answers n octets
+pub message-written-back : (own : Address) → fits own → (source : List ℕ) (b : Body) (l : List ℕ) (n : ℕ) (f : List ℕ)
+    → Puts (octetsIn own (contentIn source b)) l (Octets n) f → Said own (contentIn source b) (take n f)
+message-written-back own fit source b l n f p = said own fit (contentIn source b) (take n f) (puts-front (octetsIn own (contentIn source b)) l n f p)

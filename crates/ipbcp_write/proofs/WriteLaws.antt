@@ -1,0 +1,142 @@
+-- A body whose fields are in range stands for its content, and any other for nothing that is written; a scratch of 448 octets holds the message or shows that it is too long.
+-- Assumes nothing.
+use Prim.Native.Nat.{ℕ, _+_, _-_, _≤_, _<_, min}
+use mathlib.Core.Path.{_≡_, refl, sym, _∙_}
+use mathlib.Core.List.{List, [], _∷_, _++_}
+use mathlib.Core.Bool.{Bool, true, false, _&&_, cond, and-eq-true-iff}
+use mathlib.Core.Option.{none, some, Option·map}
+use lib.ListN.{length, take, drop}
+use lib.Seq.{take-all}
+use lib.Dec.{leb}
+use native.Mathlib.Omega.{arith}
+use borrow.Author.Tests.{le-leb, lt-leb}
+use Rattle.octets.specs.declared.Put.{Put}
+use Rattle.octets.specs.declared.Put.the-variants.{Refused}
+use Rattle.octets.specs.Append.{nextOf, Appends}
+use Rattle.octets.specs.Puts.{Puts}
+use Rattle.octets.proofs.AppendLaws.{append-then}
+use Rattle.octets.proofs.CaseLaws.{by-bool}
+use Rattle.octets.proofs.PutsLaws.{puts-none, scratch-text}
+use Rattle.sdp.specs.Written.{linesText}
+use Rattle.address.specs.declared.Address.{Address}
+use Rattle.address.specs.Kinds.{isUnicast}
+use Rattle.media.specs.declared.Stream.{Stream as Places}
+use Rattle.media.specs.Stream.{Stream}
+use Rattle.media.specs.Meaning.{streamBy, streamInside, streamIn}
+use Rattle.ipbcp.specs.declared.Body.{Body}
+use Rattle.ipbcp.specs.declared.Body.the-variants as body
+use Rattle.ipbcp.specs.declared.Kind.{Kind}
+use Rattle.ipbcp.specs.Writing.{Content, request, accepted, confused, rejected, versionText, originText, sessionText, connectionText, timeText, ipbcpText, kindIn, mediaLines, messageLines, messageText, rightMedia, rightAttributes, rightContent, octetsOf, octetsIn}
+use Rattle.ipbcp.specs.Meaning.{contentIn}
+use Rattle.ipbcp_write.specs.Parts.{contentBy, kindOf, rightStream, rightBody, bounded}
+use Rattle.ipbcp_write.proofs.LineLaws.{lines-append}
+
+-- ---- the parts of a message
+pub kind-of : (b c : Body) (k : Kind) → b ≡ c → k ≡ kindOf c → k ≡ kindOf b
+kind-of b c k e p = rw e p
+
+pub body-of : (m : List ℕ) (b c : Body) (l : List ℕ) (at r : ℕ) (f : List ℕ) → b ≡ c → Appends l at (linesText (mediaLines (contentBy m c))) r f
+    → Appends l at (linesText (mediaLines (contentBy m b))) r f
+body-of m b c l at r f e p = rw e p
+
+kind-is : (m : List ℕ) (b : Body) → kindOf b ≡ kindIn (contentBy m b)
+unfolding kindOf kindIn contentBy
+kind-is m (body.Request s) = refl
+kind-is m (body.Accepted s) = refl
+kind-is m body.Confused = refl
+kind-is m body.Rejected = refl
+
+-- the opening lines, those of time and type, and the others, one behind the other
+pub message-then : (own : Address) (m : List ℕ) (b : Body) (k : Kind) → k ≡ kindOf b → (l f g h : List ℕ) (at x y r : ℕ)
+    → Appends g y (linesText (mediaLines (contentBy m b))) r h → Appends f x (linesText (timeText ∷ ipbcpText k ∷ [])) y g
+    → Appends l at (linesText (versionText ∷ originText own ∷ sessionText ∷ connectionText own ∷ [])) x f
+    → Appends l at (messageText own (contentBy m b)) r h
+unfolding messageText messageLines
+message-then own m b k e l f g h at x y r p q o =
+    let i : k ≡ kindIn (contentBy m b) = e ∙ kind-is m b in
+    let first = versionText ∷ originText own ∷ sessionText ∷ connectionText own ∷ [] in
+    let then = timeText ∷ ipbcpText k ∷ [] in
+    let ms = mediaLines (contentBy m b) in
+    rw (← i, lines-append first (then ++ ms), lines-append then ms)
+    (append-then l f h (linesText first) _ at x r (append-then f g h (linesText then) (linesText ms) x y r p q) o)
+
+-- ---- the ranges
+module _ (own : Address) (m : List ℕ) where
+  right-of : (c : Content) → isUnicast own ≡ true → rightContent c ≡ true → octetsOf own c ≡ bounded (messageText own c)
+  unfolding octetsOf bounded
+  right-of c u h = rw (u, h)
+
+  wrong-of : (c : Content) → (isUnicast own && rightContent c) ≡ false → octetsOf own c ≡ none
+  unfolding octetsOf
+  wrong-of c h = go (isUnicast own) (rightContent c) h
+    where
+      go : (u v : Bool) → (u && v) ≡ false → cond (u && (v && leb (length (messageText own c)) 447)) (some (messageText own c)) none ≡ none
+      go true true e = let z : _≡_ {A = ℕ} 0 1 = cc in absurd (omega arith)
+      go true false e = refl
+      go false v e = refl
+
+  stream-right : (s : Places) (f : Stream → Content) → rightContent (f (streamBy m s)) ≡ (rightMedia (streamBy m s) && rightAttributes (streamBy m s)) → isUnicast own ≡ true → rightStream m s ≡ true
+      → octetsIn own (Option·map f (streamIn m s)) ≡ bounded (messageText own (f (streamBy m s)))
+  unfolding rightStream streamIn octetsIn
+  stream-right s f is u h =
+      let a = and-eq-true-iff (streamInside m s) (rightMedia (streamBy m s) && rightAttributes (streamBy m s)) .0 h in
+      rw (a .0) (right-of (f (streamBy m s)) u (is ∙ a .1))
+
+  stream-wrong : (s : Places) (f : Stream → Content) → rightContent (f (streamBy m s)) ≡ (rightMedia (streamBy m s) && rightAttributes (streamBy m s)) → (isUnicast own && rightStream m s) ≡ false
+      → octetsIn own (Option·map f (streamIn m s)) ≡ none
+  unfolding rightStream streamIn octetsIn
+  stream-wrong s f is h =
+      by-bool (streamInside m s) _
+      (λ e. rw e (wrong-of (f (streamBy m s)) (let z : (isUnicast own && (rightMedia (streamBy m s) && rightAttributes (streamBy m s))) ≡ false = rw e at h in rw is z)))
+      (λ e. rw e)
+
+  body-right : (b : Body) → isUnicast own ≡ true → rightBody m b ≡ true → octetsIn own (contentIn m b) ≡ bounded (messageText own (contentBy m b))
+  unfolding rightBody contentIn contentBy rightContent octetsIn
+  body-right (body.Request s) u h = stream-right s request refl u h
+  body-right (body.Accepted s) u h = stream-right s accepted refl u h
+  body-right body.Confused u h = right-of confused u refl
+  body-right body.Rejected u h = right-of rejected u refl
+
+  body-wrong : (b : Body) → (isUnicast own && rightBody m b) ≡ false → octetsIn own (contentIn m b) ≡ none
+  unfolding rightBody contentIn rightContent octetsIn
+  body-wrong (body.Request s) h = stream-wrong s request refl h
+  body-wrong (body.Accepted s) h = stream-wrong s accepted refl h
+  body-wrong body.Confused h = wrong-of confused h
+  body-wrong body.Rejected h = wrong-of rejected h
+
+  -- t and v are what the code found of the address and of the body
+  module _ (b : Body) (l : List ℕ) (t : Bool) (is : t ≡ isUnicast own) where
+    pub writes-no-address : t ≡ false → Puts (octetsIn own (contentIn m b)) l (Refused 5) l
+    writes-no-address e =
+        let x : (isUnicast own && rightBody m b) ≡ false = let y : isUnicast own ≡ false = sym is ∙ e in rw y in
+        rw (body-wrong b x) (puts-none l)
+
+    module _ (yes : t ≡ true) (v : Bool) (be : v ≡ rightBody m b) where
+      unicast : isUnicast own ≡ true
+      unicast = sym is ∙ yes
+
+      pub writes-none : v ≡ false → Puts (octetsIn own (contentIn m b)) l (Refused 5) l
+      writes-none e =
+          let x : (isUnicast own && rightBody m b) ≡ false = let y : rightBody m b ≡ false = sym be ∙ e in rw (unicast, y) in
+          rw (body-wrong b x) (puts-none l)
+
+      pub writes-right : v ≡ true → (r : Put) (f : List ℕ) → Puts (bounded (messageText own (contentBy m b))) l r f → Puts (octetsIn own (contentIn m b)) l r f
+      writes-right e r f p = rw (body-right b unicast (sym be ∙ e)) p
+
+pub ruleset writing = (writes-no-address, writes-none, writes-right)
+
+-- ---- the scratch: n octets of it hold the text t, or what of it they can
+module _ (t z g l : List ℕ) (n : ℕ) (p : Appends z 0 t n g) (size : length z ≡ 448) where
+  pub scratch-long : 447 < n → Puts (bounded t) l (Refused 5) l
+  unfolding bounded nextOf
+  scratch-long h = rw (lt-leb (length t) 447 (let e : n ≡ 0 + min (length z - 0) (length t) = p .next in omega arith)) (puts-none l)
+
+  pub scratch-short : n ≤ 447 → (r : Put) (f : List ℕ) → Puts (some (take (n - 0) (drop 0 g))) l r f → Puts (bounded t) l r f
+  unfolding bounded nextOf
+  scratch-short h r f q =
+      let e : n ≡ 0 + min (length z - 0) (length t) = p .next in
+      let few : length t ≤ 447 = omega arith in
+      let x : take (n - 0) (drop 0 g) ≡ t = scratch-text z g t n p 448 size ∙ take-all 448 t (omega arith) in
+      rw (le-leb (length t) 447 few) (rw x at q)
+
+pub ruleset scratching = (scratch-long, scratch-short)

@@ -1,0 +1,25 @@
+-- `lines::push_origin` meets its contract: its texts stand one behind the other.
+-- Assumes nothing.
+use borrow.Author.Needs.{needs}
+use Rattle.ipbcp_write.proofs.lines.push_origin.Statement.{statement}
+use Rattle.ipbcp_write.proofs.lines.push_origin.Tie as tie
+use Rattle.ipbcp_write.proofs.LineLaws.{origin-then}
+
+slice-aggregate-push : tie.Need-slice-aggregate-push
+slice-aggregate-push c = search needs
+
+push-requires : tie.Need-push-requires
+push-requires c κs = search needs
+
+push-host-requires : tie.Need-push-host-requires
+push-host-requires c κs = search needs
+
+same-length : tie.Need-same-length
+same-length c = search needs
+
+returns : tie.Need-returns
+returns c = search (origin-then, needs)
+
+pub push-origin-spec : {M : Type 1} → statement M
+push-origin-spec =
+    tie.close (tie.spec slice-aggregate-push push-requires push-host-requires same-length returns)

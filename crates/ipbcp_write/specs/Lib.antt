@@ -1,0 +1,2 @@
+-- What the contracts of this crate's own functions speak of.
+pub mod Parts
