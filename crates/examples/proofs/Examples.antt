@@ -6,10 +6,19 @@ use mathlib.Core.Path.{_≡_, refl}
 use mathlib.Core.List.{List, [], _∷_, map}
 use mathlib.Core.Bool.{Bool, true, false}
 use mathlib.Core.Option.{Option, none, some, Option·elim}
+use Rattle.octets.specs.Split.{onFirst, splitOn}
+use Rattle.octets.specs.Decimal.{isDigit, allDigits, valueFrom, shortest, numberFrom, readNumber, onNumber}
 use Rattle.codes.specs.Codes.{isAction}
 use Rattle.bat.specs.Framing.{Length, sized, unsized, lengthOf, unmarked, head, whole, countedBy, elementBy, sizedBy, front, onFront, walkFrom, walk, fold, elements, roomFor, cut}
 use Rattle.bat.specs.Values.{Diagnostic, action, ituCodec, rightCodec, actionIn, withCodec, onCodecs, isSingle, codecThen, codecsIn, codecListIn, reading}
 use Rattle.bat.specs.Judging.{indexBy, secondChoice, outcomeOf, noticeOf, judgement, Verdict, known, unknown, verdictBy, verdict, Answer, refusedData, judged, judgedBy, judgedData}
+use Rattle.address.specs.declared.Address.the-variants.{V4}
+use Rattle.address.specs.declared.Parsed.{Parsed}
+use Rattle.address.specs.declared.Parsed.the-variants.{Unicast, Unreadable}
+use Rattle.address.specs.Kinds.{isUnicast, kind4}
+use Rattle.address.specs.Parts.{allParts, inBase}
+use Rattle.address.specs.Ipv4.{isOctet, octetValue, isDotted, dottedValue, readV4}
+use Rattle.bctp.specs.Packet.{rightFirst, rightSecond, hasError, versionOf, protocolOf, versionIndicator, protocolIndicator, Opened, reply, openedBy, opened}
 
 -- what the number of a length field is, if it is one
 lengthNumber : Length → Option ℕ
@@ -35,19 +44,27 @@ data Question : Type 0 where
   diagnosed-in : List ℕ → Question
   -- what an element with this compatibility octet asks for, where passing on is not possible: outcome and notice
   asked-by : ℕ → Question
+  -- what a tunnel packet is
+  packet : List ℕ → Question
+  -- what this text is read as, as an IPv4 address
+  address : List ℕ → Question
 
 data Reply : Type 0 where
   a-length : Option ℕ → Reply
   an-answer : Answer → Reply
   the-diagnostics : Option (List Diagnostic) → Reply
   an-outcome : ℕ → Bool → Reply
+  a-packet : Opened → Reply
+  an-address : Parsed → Reply
 
-reply : Question → Reply
+given : Question → Reply
 unfolding lengthNumber diagnosed
-reply (length-of s) = a-length (lengthNumber (lengthOf s))
-reply (answer-to s) = an-answer (judgedData true 16 s)
-reply (diagnosed-in s) = the-diagnostics (diagnosed (judgedData true 16 s))
-reply (asked-by c) = an-outcome (outcomeOf false c) (noticeOf false c)
+given (length-of s) = a-length (lengthNumber (lengthOf s))
+given (answer-to s) = an-answer (judgedData true 16 s)
+given (diagnosed-in s) = the-diagnostics (diagnosed (judgedData true 16 s))
+given (asked-by c) = an-outcome (outcomeOf false c) (noticeOf false c)
+given (packet s) = a-packet (opened s)
+given (address s) = an-address (readV4 s)
 
 record Example : Type 0 where
   pub asked : Question
@@ -67,8 +84,16 @@ examples =
     ∷ record { asked = answer-to (0x01 ∷ 0x00 ∷ 0x01 ∷ []); right = an-answer (refusedData 2) }
     ∷ record { asked = asked-by 0xB0; right = an-outcome 3 false }
     ∷ record { asked = asked-by 0xD0; right = an-outcome 1 true }
+    ∷ record { asked = packet (0x20 ∷ 0x21 ∷ []); right = a-packet (reply (0x20 ∷ 0x61 ∷ [])) }
+    ∷ record { asked = packet (0x21 ∷ 0x20 ∷ []); right = a-packet (reply (0x60 ∷ 0x20 ∷ [])) }
+    -- "223.255.255.255" and "224.0.0.1"
+    ∷ record {
+      asked = address (50 ∷ 50 ∷ 51 ∷ 46 ∷ 50 ∷ 53 ∷ 53 ∷ 46 ∷ 50 ∷ 53 ∷ 53 ∷ 46 ∷ 50 ∷ 53 ∷ 53 ∷ []);
+      right = an-address (Unicast (V4 0xDFFFFFFF));
+    }
+    ∷ record { asked = address (50 ∷ 50 ∷ 52 ∷ 46 ∷ 48 ∷ 46 ∷ 48 ∷ 46 ∷ 49 ∷ []); right = an-address Unreadable }
     ∷ []
 
-all-right : map (λ x. reply (x .asked)) examples ≡ map (λ x. x .right) examples
-unfolding reply examples lengthNumber diagnostics diagnosed isAction lengthOf unmarked head whole countedBy elementBy sizedBy front onFront walkFrom walk fold elements roomFor cut ituCodec rightCodec actionIn withCodec onCodecs isSingle codecThen codecsIn codecListIn reading indexBy secondChoice outcomeOf noticeOf judgement verdictBy verdict judgedBy judgedData Option·elim
+all-right : map (λ x. given (x .asked)) examples ≡ map (λ x. x .right) examples
+unfolding given examples lengthNumber diagnostics diagnosed isAction lengthOf unmarked head whole countedBy elementBy sizedBy front onFront walkFrom walk fold elements roomFor cut ituCodec rightCodec actionIn withCodec onCodecs isSingle codecThen codecsIn codecListIn reading indexBy secondChoice outcomeOf noticeOf judgement verdictBy verdict judgedBy judgedData Option·elim onFirst splitOn isDigit allDigits valueFrom shortest numberFrom readNumber onNumber isUnicast kind4 allParts inBase isOctet octetValue isDotted dottedValue readV4 rightFirst rightSecond hasError versionOf protocolOf versionIndicator protocolIndicator openedBy opened
 all-right = refl

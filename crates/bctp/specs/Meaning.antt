@@ -1,0 +1,41 @@
+-- What `Packet` stands for: the message is a part of the packet, the reply the front of the buffer.
+use Prim.Native.Nat.{ℕ, _+_}
+use mathlib.Core.Path.{_≡_}
+use mathlib.Core.List.{List, _++_}
+use lib.ListN.{length, take, drop}
+use Rattle.octets.specs.declared.Put.{Put}
+use Rattle.octets.specs.declared.Put.the-variants.{Octets, Refused as RefusedPut}
+use Rattle.bctp.specs.declared.Packet.{Packet}
+use Rattle.bctp.specs.declared.Packet.the-variants as answer
+use Rattle.bctp.specs.Packet.{Opened, refused, notice, reply, message, withRoom, packetText}
+
+-- document 01's number and values for each answer; p is the packet, and f the buffer after the call
+unfoldable pub openedIn : List ℕ → List ℕ → Packet → Opened
+openedIn p f (answer.Refused n) = refused n
+openedIn p f answer.Notice = notice
+openedIn p f answer.Reply = reply (take 2 f)
+openedIn p f answer.Message = message (drop 2 p)
+
+-- what is left in the buffer l: a reply at its front, and else what was there
+unfoldable pub left : List ℕ → Opened → List ℕ
+left l (refused n) = l
+left l notice = l
+left l (reply t) = t ++ drop (length t) l
+left l (message m) = l
+
+-- The call to open the packet p, which is to be answered by o where there is room, answers r with the buffer l and leaves f
+-- in it.
+pub record Opens (p l : List ℕ) (o : Opened) (r : Packet) (f : List ℕ) : Type 0 where
+  pub answers : openedIn p f r ≡ withRoom (length l) o
+  pub fills : f ≡ left l (withRoom (length l) o)
+
+-- ---- for functions that are not public
+-- a writer's answer, where there is no room for the two octets in front of what it writes
+unfoldable pub withoutRoom : Put → Put
+withoutRoom (RefusedPut n) = RefusedPut n
+withoutRoom (Octets n) = RefusedPut 4
+
+-- the indicators are put in front of what stands in l behind them, of which n octets count
+pub record Indicated (n : ℕ) (l : List ℕ) (r : Put) (f : List ℕ) : Type 0 where
+  pub counts : r ≡ Octets (n + 2)
+  pub fronts : f ≡ packetText (drop 2 l)
