@@ -1,7 +1,10 @@
 // The answer to a line, by its mode word.
+use crate::addresses;
 use crate::elements;
+use crate::message;
 use crate::print;
 use crate::rewrite;
+use crate::tunnel;
 use octets::parts;
 use octets::words;
 
@@ -20,6 +23,15 @@ pub fn push_answer(
     }
     if words::equals(b"rewrite", word) {
         return rewrite::push_answer(line, data, room, out, at);
+    }
+    if words::equals(b"tunnel", word) {
+        return tunnel::push_answer(line, data, room, out, at);
+    }
+    if words::equals(b"message", word) {
+        return message::push_answer(line, data, out, at);
+    }
+    if words::equals(b"address", word) {
+        return addresses::push_answer(line, data, out, at);
     }
     print::bad_line(out, at)
 }

@@ -1,9 +1,12 @@
 // Shows what the card reads: answers each line of standard input with one line.
+mod addresses;
 mod answer;
 mod elements;
 mod input;
+mod message;
 mod print;
 mod rewrite;
+mod tunnel;
 mod values;
 mod walk;
 

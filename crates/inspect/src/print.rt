@@ -21,6 +21,12 @@ pub fn octets(s: &[u8], out: &mut [u8], at: usize) -> usize {
     hex::push_hex(s, out, at)
 }
 
+// Appends a name and octets.
+pub fn named(name: &[u8], s: &[u8], out: &mut [u8], at: usize) -> usize {
+    let k = append::push(name, out, at);
+    octets(s, out, k)
+}
+
 // Appends the identifier and the index of a diagnostic.
 pub fn diagnostic(identifier: u8, index: u64, out: &mut [u8], at: usize) -> usize {
     let k = append::push_number_then(identifier as u64, 44, out, at);

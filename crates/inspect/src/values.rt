@@ -27,8 +27,7 @@ fn push_flag(name: &[u8], b: bool, out: &mut [u8], at: usize) -> usize {
 
 // Appends a name, and the octets of sp in s.
 fn push_octets(name: &[u8], s: &[u8], sp: Span, out: &mut [u8], at: usize) -> usize {
-    let k = append::push(name, out, at);
-    print::octets(spans::text(s, sp), out, k)
+    print::named(name, spans::text(s, sp), out, at)
 }
 
 // Appends a single codec: the organisation, and the octets behind it.
