@@ -1,8 +1,7 @@
 #!/usr/bin/env bash
 # vectors.sh [PROGRAM [MODE..]]: runs tests/vectors/MODE.in through inspect, for these modes or for all,
 # each line behind its mode word, and compares what comes out with MODE.out. PROGRAM is the built inspect,
-# target/bin/inspect unless given; tests/model.py can be given too, with the modes elements and rewrite.
-# Ends with status 1 where a line differs.
+# target/bin/inspect unless given; tests/model.py can be given too. Ends with status 1 where a line differs.
 set -u
 program=$(realpath -m "${1:-$(dirname "$0")/../target/bin/inspect}")
 cd "$(dirname "$0")/.." || exit 2
