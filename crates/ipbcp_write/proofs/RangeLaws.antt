@@ -1,6 +1,8 @@
 -- Laws of the ranges: what the code found of each field, in the order of the definitions, tells whether all are right.
 -- Assumes nothing.
 use Prim.Native.Nat.{ℕ, zero, suc, _≤_, _<_}
+use mir.Syntax.{w8, w16}
+use mir.Val.{Fits}
 use mathlib.Core.Path.{_≡_, refl, sym, _∙_}
 use mathlib.Core.List.{List, [], _∷_, map}
 use mathlib.Core.Bool.{Bool, true, false, and-true}
@@ -56,24 +58,20 @@ module _ (m : List ℕ) (s : Places) (a : List ℕ) (at : a ≡ textOf m (s .med
     unfolding rightMedia streamBy
     port-none h = rw (media-token, lt-leb 1 (s .port) h)
 
-    pub port-high : 1 ≤ s .port → 65535 < s .port → false ≡ rightMedia (streamBy m s)
-    unfolding rightMedia streamBy
-    port-high l h = rw (media-token, le-leb 1 (s .port) l, lt-leb (s .port) 65535 h)
-
-    module _ (low : 1 ≤ s .port) (high : s .port ≤ 65535) (b : List ℕ) (bt : b ≡ textOf m (s .transport)) (u : Bool) (be : u ≡ isToken b) where
+    module _ (low : 1 ≤ s .port) (high : Fits w16 (s .port)) (b : List ℕ) (bt : b ≡ textOf m (s .transport)) (u : Bool) (be : u ≡ isToken b) where
       pub transport-none : u ≡ false → false ≡ rightMedia (streamBy m s)
       unfolding rightMedia streamBy
       transport-none e =
           let x : isToken (textOf m (s .transport)) ≡ false = rw (← bt) (sym be ∙ e) in
-          rw (media-token, le-leb 1 (s .port) low, le-leb (s .port) 65535 high, x)
+          rw (media-token, le-leb 1 (s .port) low, le-leb (s .port) 65535 (omega arith), x)
 
       pub payload-is : u ≡ true → (w : Bool) → w ≡ leb (s .payload) 127 → w ≡ rightMedia (streamBy m s)
       unfolding rightMedia streamBy
       payload-is e w p =
           let x : isToken (textOf m (s .transport)) ≡ true = rw (← bt) (sym be ∙ e) in
-          rw (media-token, le-leb 1 (s .port) low, le-leb (s .port) 65535 high, x) p
+          rw (media-token, le-leb 1 (s .port) low, le-leb (s .port) 65535 (omega arith), x) p
 
-pub ruleset medias = (media-none, port-none, port-high, transport-none, payload-is)
+pub ruleset medias = (media-none, port-none, transport-none, payload-is)
 
 -- ---- the texts of fmtp lines, which the code has as a, b and c
 module _ (m : List ℕ) (x : Texts) where
@@ -150,19 +148,13 @@ module _ (m : List ℕ) (s : Places) (a : List ℕ) (at : a ≡ textOf m (s .rtp
         let x : allTextsPlain (textsBy m (s .fmtp)) ≡ false = sym be ∙ e in
         rw (rtpmap-plain, le-leb (length (textsBy m (s .fmtp))) 3 (few-texts m (s .fmtp)), x)
 
-    pub ptime-high : u ≡ true → 255 < s .ptime → false ≡ rightAttributes (streamBy m s)
-    unfolding rightAttributes streamBy
-    ptime-high e h =
-        let x : allTextsPlain (textsBy m (s .fmtp)) ≡ true = sym be ∙ e in
-        rw (rtpmap-plain, le-leb (length (textsBy m (s .fmtp))) 3 (few-texts m (s .fmtp)), x, lt-leb (s .ptime) 255 h)
-
-    pub attributes-are : u ≡ true → s .ptime ≤ 255 → (w : Bool) → w ≡ attributesFit (streamBy m s) → w ≡ rightAttributes (streamBy m s)
+    pub attributes-are : u ≡ true → Fits w8 (s .ptime) → (w : Bool) → w ≡ attributesFit (streamBy m s) → w ≡ rightAttributes (streamBy m s)
     unfolding rightAttributes streamBy
     attributes-are e h w p =
         let x : allTextsPlain (textsBy m (s .fmtp)) ≡ true = sym be ∙ e in
-        rw (rtpmap-plain, le-leb (length (textsBy m (s .fmtp))) 3 (few-texts m (s .fmtp)), x, le-leb (s .ptime) 255 h) p
+        rw (rtpmap-plain, le-leb (length (textsBy m (s .fmtp))) 3 (few-texts m (s .fmtp)), x, le-leb (s .ptime) 255 (omega arith)) p
 
-pub ruleset attributes = (rtpmap-none, fmtp-none, ptime-high, attributes-are)
+pub ruleset attributes = (rtpmap-none, fmtp-none, attributes-are)
 
 -- ---- a body that the code has matched
 pub right-of : (m : List ℕ) (b c : Body) (t : Bool) → b ≡ c → t ≡ rightBody m c → t ≡ rightBody m b

@@ -61,8 +61,6 @@ module _ (m : List ℕ) (s : Places) (t l : List ℕ) (at : ℕ) (e : t ≡ text
       rw (← e, ne-eqb (length t) 0 n, lines-one)
       (simp append-assoc (simp append-assoc at (append-then l f h (97 ∷ 61 ∷ 114 ∷ 116 ∷ 112 ∷ 109 ∷ 97 ∷ 112 ∷ 58 ∷ []) _ at a r u x)))
 
-pub ruleset rtpmaps = (rtpmap-none, rtpmap-some)
-
 -- ---- fmtp
 pub fmtp-then : (t l f g : List ℕ) (at a r : ℕ) → Appends f a (lineText t) r g → Appends l at (97 ∷ 61 ∷ 102 ∷ 109 ∷ 116 ∷ 112 ∷ 58 ∷ []) a f
     → Appends l at (lineText (fmtpText t)) r g
@@ -106,8 +104,6 @@ module _ (n : ℕ) (l : List ℕ) (at : ℕ) where
   ptime-some f g h a b r e y x w =
       rw (ne-eqb n 0 e, lines-one)
       (append-then l f h (97 ∷ 61 ∷ 112 ∷ 116 ∷ 105 ∷ 109 ∷ 101 ∷ 58 ∷ []) _ at a r (append-then f g h (numberText n) (13 ∷ 10 ∷ []) a b r y x) w)
-
-pub ruleset ptimes = (ptime-none, ptime-some)
 
 -- ---- all of them
 module _ (m : List ℕ) (s : Places) (l f g h : List ℕ) (at a b r : ℕ) where

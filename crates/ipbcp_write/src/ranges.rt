@@ -26,8 +26,7 @@ fn is_token(t: &[u8]) -> bool
     all_plain(t)
 }
 
-// The fields of the media line are in range. (No port of sixteen bits is above 65535; the test is for the
-// definition, which speaks of all numbers.)
+// The fields of the media line are in range.
 fn right_media(s: Stream, source: &[u8]) -> bool
     ensures { λ r. ⌜ r ≡ rightMedia (streamBy (now (source .entry)) s) ⌝ }
 {
@@ -37,9 +36,6 @@ fn right_media(s: Stream, source: &[u8]) -> bool
     let payload = s.payload;
     if is_token(text(source, media)) {
         if port < 1 {
-            return false;
-        }
-        if 65535 < port {
             return false;
         }
         if is_token(text(source, transport)) {
@@ -74,18 +70,14 @@ fn are_plain(x: Texts, source: &[u8]) -> bool
     false
 }
 
-// The fields of the attributes are in range. (The test of the packet time is for the definition, too.)
+// The fields of the attributes are in range.
 fn right_attributes(s: Stream, source: &[u8]) -> bool
     ensures { λ r. ⌜ r ≡ rightAttributes (streamBy (now (source .entry)) s) ⌝ }
 {
     let rtpmap = s.rtpmap;
     let fmtp = s.fmtp;
-    let ptime = s.ptime;
     if all_plain(text(source, rtpmap)) {
         if are_plain(fmtp, source) {
-            if 255 < ptime {
-                return false;
-            }
             return attributes_fit(s, source);
         }
     }

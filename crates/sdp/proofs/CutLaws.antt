@@ -9,7 +9,7 @@ use mathlib.Core.Option.{none, some}
 use lib.ListN.{length, drop, length-drop, drop-of-length-le}
 use lib.Dec.{eqb, leb}
 use native.Mathlib.Omega.{arith}
-use borrow.Author.Tests.{ne-eqb, leb-true}
+use borrow.Author.Tests.{ne-eqb}
 use Rattle.octets.specs.declared.Span.{Span}
 use Rattle.octets.specs.Split.{has, before, onFirst, splitOn}
 use Rattle.octets.specs.Spans.{textOf, inside}
@@ -123,12 +123,6 @@ module _ (m : List ℕ) (i : ℕ) (y : Line) (w : lineIn m y ≡ some (firstLine
 
     is-first : firstLine (drop i m) ≡ line (textOf m sp) (drop n m)
     is-first = sym (front .1)
-
-    bounds : (inside m sp ≡ true) × (leb n (length m) ≡ true)
-    bounds = and-eq-true-iff (inside m sp) (leb n (length m)) .0 (front .0)
-
-    pub loop-inside : n ≤ length m
-    loop-inside = leb-true n (length m) (bounds .1)
 
     pub loop-lines : lines (drop i m) ≡ textOf m sp ∷ lines (drop n m)
     loop-lines = lines-first (drop i m) (textOf m sp) (drop n m) is-first

@@ -14,20 +14,17 @@ all-plain-requires c κs = search needs
 are-plain-requires : tie.Need-are-plain-requires
 are-plain-requires c κs = search needs
 
-returns : tie.Need-returns
-returns c = search (attributes, needs)
-
 attributes-fit-requires : tie.Need-attributes-fit-requires
 attributes-fit-requires c κs = search needs
+
+returns : tie.Need-returns
+returns c = search (attributes, needs)
 
 returns-2 : tie.Need-returns-2
 returns-2 c = search (attributes, needs)
 
 returns-3 : tie.Need-returns-3
 returns-3 c = search (attributes, needs)
-
-returns-4 : tie.Need-returns-4
-returns-4 c = search (attributes, needs)
 
 pub right-attributes-spec : {M : Type 1} → statement M
 right-attributes-spec =
@@ -36,8 +33,7 @@ right-attributes-spec =
     text-requires
     all-plain-requires
     are-plain-requires
-    returns
     attributes-fit-requires
+    returns
     returns-2
-    returns-3
-    returns-4)
+    returns-3)

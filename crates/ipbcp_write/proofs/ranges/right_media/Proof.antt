@@ -14,23 +14,20 @@ is-token-requires c κs = search needs
 returns : tie.Need-returns
 returns c = search (medias, needs)
 
-returns-2 : tie.Need-returns-2
-returns-2 c = search (medias, needs)
-
 text-requires-2 : tie.Need-text-requires-2
 text-requires-2 c κs = search needs
 
 is-token-requires-2 : tie.Need-is-token-requires-2
 is-token-requires-2 c κs = search needs
 
+returns-2 : tie.Need-returns-2
+returns-2 c = search (medias, needs)
+
 returns-3 : tie.Need-returns-3
 returns-3 c = search (medias, needs)
 
 returns-4 : tie.Need-returns-4
 returns-4 c = search (medias, needs)
-
-returns-5 : tie.Need-returns-5
-returns-5 c = search (medias, needs)
 
 pub right-media-spec : {M : Type 1} → statement M
 right-media-spec =
@@ -39,9 +36,8 @@ right-media-spec =
     text-requires
     is-token-requires
     returns
-    returns-2
     text-requires-2
     is-token-requires-2
+    returns-2
     returns-3
-    returns-4
-    returns-5)
+    returns-4)
