@@ -7,17 +7,11 @@ set -eu
 root=$(cd "$(dirname "$0")/.." && pwd)
 work=$(mktemp -d)
 trap 'rm -rf "$work"' EXIT
-cp -r "$root/crates" "$root/crates.txt" "$work"
-if [ -d "$root/target" ]; then
-    cp -r "$root/target" "$work"
-fi
-cp -r "$root/bench/card_message" "$work/crates"
-echo 'card_message: ipbcp media address octets' >> "$work/crates.txt"
-log=$(cd "$work" && rt staticlib card_message 2>&1) || {
+log=$(cd "$root" && rt staticlib card_message 2>&1) || {
     printf '%s\n' "$log" >&2
     exit 1
 }
-cc -O2 "$root/bench/message.c" "$work/target/staticlib/libcard_message.a" -o "$work/message"
+cc -O2 "$root/bench/message.c" "$root/target/staticlib/libcard_message.a" -o "$work/message"
 count() {
     valgrind --tool=callgrind --callgrind-out-file=/dev/null "$work/message" "$1" 2>&1 |
         sed -n 's/.*Collected *: *//p'
