@@ -3,12 +3,8 @@
 # each line behind its mode word, and compares what comes out with MODE.out. PROGRAM is the built inspect,
 # target/bin/inspect unless given; tests/model.py can be given too. Ends with status 1 where a line differs.
 set -u
-program=$(realpath -m "${1:-$(dirname "$0")/../target/bin/inspect}")
+. "$(dirname "$0")/program.sh" "${1:-}"
 cd "$(dirname "$0")/.." || exit 2
-if [ ! -x "$program" ]; then
-    echo "no program $program (rt check inspect builds it)" >&2
-    exit 2
-fi
 got=$(mktemp)
 trap 'rm -f "$got"' EXIT
 status=0
