@@ -35,7 +35,7 @@ width-few (suc k) (suc e) n h =
     let r = width-few k e (n / 10) (omega arith) in
     rw (width-suc e n l) (omega arith))
 
-number-few : (k n : ℕ) → n < 10 ^ suc k → length (numberText n) ≤ suc k
+pub number-few : (k n : ℕ) → n < 10 ^ suc k → length (numberText n) ≤ suc k
 unfolding numberText
 number-few k n h = rw (length-last (widthFrom 19 n) n) (width-few k 19 n h)
 

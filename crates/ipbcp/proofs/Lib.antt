@@ -5,3 +5,4 @@ pub mod ReadLaws
 pub mod WrittenLaws
 pub mod RoundTrip
 pub mod Lengths
+pub mod ReadRange

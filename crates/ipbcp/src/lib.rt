@@ -1,5 +1,5 @@
 // Q.1970 messages (IPBCP) of version 1: what they are, and reading them.
-mod types;
+pub mod types;
 
 ghost use mathlib.Core.Path.{_≡_};
 ghost use mathlib.Core.Bool.{true};
@@ -31,8 +31,8 @@ enum Word {
     Unknown,
 }
 
-// What the ipbcp line says.
-enum Head {
+// What the ipbcp line says: the version and the type, if it is one.
+pub enum Head {
     Typed { version: u8, kind: Kind },
     Untyped,
 }

@@ -78,7 +78,7 @@ fn is_ipbcp(t: &[u8]) -> bool
 }
 
 // The version and the type of m. Lines behind the ipbcp line are looked at for their form alone.
-pub(crate) fn read_head(m: &[u8]) -> Head
+pub fn read_head(m: &[u8]) -> Head
     ensures { λ r. ⌜ r ≡ headIn (now (m .entry)) ⌝ }
 {
     let mut i = 0;

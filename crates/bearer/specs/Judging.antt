@@ -1,0 +1,107 @@
+-- Document 01, "One endpoint": which commands, Requests and Accepteds are right, the bearer that is then in force, and what is
+-- written. A Request of ours is what its media line and its attributes say: a stream.
+use Prim.Native.Nat.{ℕ}
+use mathlib.Core.List.{List, [], _∷_}
+use mathlib.Core.Bool.{Bool, true, false, _&&_, cond}
+use mathlib.Core.Option.{Option, none, some, Option·elim}
+use lib.Dec.{eqb, ltb}
+use Rattle.octets.specs.Words.{same}
+use Rattle.address.specs.declared.Address.{Address}
+use Rattle.address.specs.declared.Address.the-variants.{V4, V6}
+use Rattle.media.specs.Stream.{Stream}
+use Rattle.configuration.specs.Configuration.{Codec, Configuration, entryIn, suits, nameOf, namedIn, noneOrInRange}
+use Rattle.bearer.specs.Bearer.{Bearer}
+
+-- "audio" and "RTP/AVP"
+abbrev pub audio : List ℕ
+audio = 97 ∷ 117 ∷ 100 ∷ 105 ∷ 111 ∷ []
+
+abbrev pub rtpAvp : List ℕ
+rtpAvp = 82 ∷ 84 ∷ 80 ∷ 47 ∷ 65 ∷ 86 ∷ 80 ∷ []
+
+-- ---- addresses
+unfoldable pub sameFamily : Address → Address → Bool
+sameFamily (V4 m) (V4 n) = true
+sameFamily (V4 m) (V6 h l) = false
+sameFamily (V6 h l) (V4 n) = false
+sameFamily (V6 h l) (V6 i m) = true
+
+unfoldable pub sameAddress : Address → Address → Bool
+sameAddress (V4 m) (V4 n) = eqb m n
+sameAddress (V4 m) (V6 h l) = false
+sameAddress (V6 h l) (V4 n) = false
+sameAddress (V6 h l) (V6 i m) = eqb h i && eqb l m
+
+-- ---- commands
+-- the Request of a command: audio, own port, RTP/AVP, the payload and the packet time, and the name of a named entry as rtpmap
+unfoldable pub offered : Configuration → Codec → ℕ → ℕ → Stream
+offered c k payload ptime = record {
+  media = audio;
+  port = c .port;
+  transport = rtpAvp;
+  payload = payload;
+  rtpmap = nameOf k;
+  fmtp = [];
+  ptime = ptime;
+}
+
+-- a command names a codec entry, a payload that suits it, and a packet time in range or 0 for none; else there is no Request
+unfoldable pub commanded : Configuration → ℕ → ℕ → ℕ → Option Stream
+commanded c entry payload ptime =
+    Option·elim (entryIn (c .codecs) entry) none
+    (λ k. cond (suits k payload && noneOrInRange c ptime) (some (offered c k payload ptime)) none)
+
+-- ---- a peer's Request
+-- the peer's address and port are as in force, where a bearer is
+unfoldable pub unmoved : Option Bearer → Bearer → Bool
+unmoved none d = true
+unmoved (some b) d = sameAddress (b .address) (d .address) && eqb (b .stream .port) (d .stream .port)
+
+-- audio, RTP/AVP, and a payload that is configured
+unfoldable pub rightStream : Configuration → Stream → Bool
+rightStream c s = same audio (s .media) && (same rtpAvp (s .transport) && namedIn (c .codecs) (s .payload) (s .rtpmap))
+
+-- family ours, media, transport and payload right, and what is in force unmoved
+unfoldable pub rightRequest : Configuration → Option Bearer → Bearer → Bool
+rightRequest c force d = sameFamily (c .own) (d .address) && (rightStream c (d .stream) && unmoved force d)
+
+-- a packet time moved to the nearest value in range; none stays none
+unfoldable pub nearest : Configuration → ℕ → ℕ
+nearest c n = cond (eqb n 0) 0 (cond (ltb n (c .least)) (c .least) (cond (ltb (c .most) n) (c .most) n))
+
+-- a stream with another port and packet time, all else copied
+unfoldable pub restated : ℕ → ℕ → Stream → Stream
+restated port ptime s = record {
+  media = s .media;
+  port = port;
+  transport = s .transport;
+  payload = s .payload;
+  rtpmap = s .rtpmap;
+  fmtp = s .fmtp;
+  ptime = ptime;
+}
+
+-- the bearer that a right Request puts in force: address and port are the peer's, all else is that of our Accepted
+unfoldable pub granted : Configuration → Bearer → Bearer
+granted c d = record { address = d .address; stream = restated (d .stream .port) (nearest c (d .stream .ptime)) (d .stream) }
+
+-- our Accepted for it, with own port
+unfoldable pub answerTo : Configuration → Bearer → Stream
+answerTo c d = restated (c .port) (nearest c (d .stream .ptime)) (d .stream)
+
+-- ---- an Accepted for our Request q
+-- media, transport, payload and rtpmap as in the Request, where no rtpmap is an empty one
+unfoldable pub sameOffer : Stream → Stream → Bool
+sameOffer q s =
+    same (q .media) (s .media)
+    && (same (q .transport) (s .transport) && (eqb (q .payload) (s .payload) && same (q .rtpmap) (s .rtpmap)))
+
+-- for a change, the peer's address as in force; its port may move
+unfoldable pub sameHost : Option Bearer → Bearer → Bool
+sameHost none d = true
+sameHost (some b) d = sameAddress (b .address) (d .address)
+
+unfoldable pub rightAccepted : Configuration → Option Bearer → Stream → Bearer → Bool
+rightAccepted c force q d =
+    sameFamily (c .own) (d .address)
+    && (sameOffer q (d .stream) && (noneOrInRange c (d .stream .ptime) && sameHost force d))

@@ -1,0 +1,59 @@
+-- What the structs and enums of this crate stand for: their streams have their texts in the array beside them, those of a
+-- message in the message.
+use Prim.Native.Nat.{ℕ}
+use mathlib.Core.List.{List}
+use mathlib.Core.Bool.{Bool, true, false, cond}
+use mathlib.Core.Option.{Option, none, some, Option·map}
+use lib.ListN.{replicate}
+use Rattle.octets.specs.Append.{appended}
+use Rattle.address.specs.declared.Address.{Address}
+use Rattle.media.specs.declared.Stream.{Stream as Places}
+use Rattle.media.specs.Stream.{Stream}
+use Rattle.media.specs.Meaning.{streamBy, streamIn}
+use Rattle.ipbcp.specs.Reading.{mostOctets}
+use Rattle.bearer.specs.declared.Request.{Request}
+use Rattle.bearer.specs.declared.Bearer as held
+use Rattle.bearer.specs.declared.Heard as taken
+use Rattle.bearer.specs.declared.Heard.the-variants as is
+use Rattle.bearer.specs.Bearer.{Bearer}
+use Rattle.bearer.specs.Hearing.{Heard, unreadable, otherRequest, request, accepted, declined}
+
+unfoldable pub requestBy : Request → Stream
+requestBy q = streamBy (q .text) (q .stream)
+
+unfoldable pub bearerBy : held.Bearer → Bearer
+bearerBy b = record { address = b .address; stream = streamBy (b .text) (b .stream) }
+
+-- the bearer that a message names, whose texts are in the message
+unfoldable pub namedBy : List ℕ → Address → Places → Bearer
+namedBy m a s = record { address = a; stream = streamBy m s }
+
+unfoldable pub heardIn : List ℕ → taken.Heard → Option Heard
+heardIn m is.Unreadable = some unreadable
+heardIn m is.OtherRequest = some otherRequest
+heardIn m is.BadRequest = some (request none)
+heardIn m (is.Request a s) = Option·map (λ (t : Stream). request (some (record { address = a; stream = t }))) (streamIn m s)
+heardIn m is.BadAccepted = some (accepted none)
+heardIn m (is.Accepted a s) = Option·map (λ (t : Stream). accepted (some (record { address = a; stream = t }))) (streamIn m s)
+heardIn m is.Declined = some declined
+
+-- a bearer with the octets of m, as far as there is room, and zeros behind them
+abbrev pub heldAs : Address → Places → List ℕ → held.Bearer
+heldAs a s m = record { address = a; stream = s; text = appended (replicate mostOctets 0) 0 m }
+
+-- the bearer in force, where one is
+abbrev pub heldIf : Bool → Bearer → Option Bearer
+heldIf true b = some b
+heldIf false b = none
+
+-- the places of a stream, with another port and packet time
+abbrev pub placesAs : ℕ → ℕ → Places → Places
+placesAs port ptime s = record {
+  media = s .media;
+  port = port;
+  transport = s .transport;
+  payload = s .payload;
+  rtpmap = s .rtpmap;
+  fmtp = s .fmtp;
+  ptime = ptime;
+}

@@ -1,0 +1,63 @@
+// What a set-up or a change is about: our open Request, and the bearer in force. Both hold a media line whose texts stand in an
+// array beside it.
+ghost use mathlib.Core.Path.{_≡_};
+ghost use Rattle.bearer.specs.Meaning.{heldAs, placesAs};
+use address::Address;
+use ipbcp::MOST_OCTETS;
+use media::Stream;
+use octets::append::push;
+
+// Room for the media, the transport and an encoding name.
+pub const MOST_OFFERED: usize = 44;
+
+// A Request of ours.
+pub struct Request {
+    pub stream: Stream,
+    pub text: [u8; MOST_OFFERED],
+}
+
+// A bearer, with the peer's address and port.
+pub struct Bearer {
+    pub address: Address,
+    pub stream: Stream,
+    pub text: [u8; MOST_OCTETS],
+}
+
+// What a message is to an endpoint. The texts of a stream are places in the message.
+pub enum Heard {
+    // Nothing that it can use.
+    Unreadable,
+    // A Request of another version.
+    OtherRequest,
+    // A Request of version 1 that can't be read to its end.
+    BadRequest,
+    Request { address: Address, stream: Stream },
+    // An Accepted of another version, or one that can't be read to its end.
+    BadAccepted,
+    Accepted { address: Address, stream: Stream },
+    // A Rejected or a Confused, of any version.
+    Declined,
+}
+
+// The bearer that the message m names, whose stream has its texts in m.
+pub fn hold(address: Address, stream: Stream, m: &[u8]) -> Bearer
+    ensures { λ r. ⌜ r ≡ heldAs address stream (now (m .entry)) ⌝ }
+{
+    let mut text = [0u8; MOST_OCTETS];
+    push(m, &mut text, 0);
+    Bearer {
+        address,
+        stream,
+        text,
+    }
+}
+
+// The stream with another port and packet time.
+pub fn restate(s: Stream, port: u16, ptime: u8) -> Stream
+    ensures { λ r. ⌜ r ≡ placesAs port ptime s ⌝ }
+{
+    let mut r = s;
+    r.port = port;
+    r.ptime = ptime;
+    r
+}

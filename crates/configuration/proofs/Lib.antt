@@ -1,0 +1,5 @@
+-- The laws of the definitions in `specs/`, a file for each subject.
+-- Assumes nothing.
+pub mod FormatLaws
+pub mod EntryLaws
+pub mod CheckLaws

@@ -1,0 +1,104 @@
+-- Document 01, "One endpoint", its first paragraph: an endpoint's configuration, which of them can be used (the others are
+-- refused by 12), and which codec a command or a message names.
+use Prim.Native.Nat.{ℕ, zero, suc}
+use mathlib.Core.List.{List, [], _∷_}
+use mathlib.Core.Bool.{Bool, true, false, _&&_, _||_}
+use mathlib.Core.Option.{Option, none, some}
+use lib.ListN.{length}
+use lib.Dec.{eqb, leb}
+use Rattle.octets.specs.Words.{same}
+use Rattle.address.specs.declared.Address.{Address}
+use Rattle.address.specs.Kinds.{isUnicast}
+
+-- a codec entry: a payload 0 to 95, or an encoding name with clock, which stands for the payloads 96 to 127
+pub data Codec : Type 0 where
+  fixed : ℕ → Codec
+  named : List ℕ → Codec
+
+pub record Configuration : Type 0 where
+  pub own : Address
+  pub port : ℕ
+  -- the packet times that are in range
+  pub least : ℕ
+  pub most : ℕ
+  -- the timers, in seconds
+  pub t1 : ℕ
+  pub t2 : ℕ
+  pub codecs : List Codec
+
+-- n is a to b
+abbrev pub between : ℕ → ℕ → ℕ → Bool
+between a b n = leb a n && leb n b
+
+-- ---- which configurations can be used
+-- each octet is 33 to 126
+unfoldable pub allVisible : List ℕ → Bool
+allVisible [] = true
+allVisible (b ∷ bs) = between 33 126 b && allVisible bs
+
+-- the longest encoding name
+abbrev pub mostName : ℕ
+mostName = 32
+
+unfoldable pub rightCodec : Codec → Bool
+rightCodec (fixed n) = leb n 95
+rightCodec (named t) = between 1 mostName (length t) && allVisible t
+
+unfoldable pub allRight : List Codec → Bool
+allRight [] = true
+allRight (k ∷ ks) = rightCodec k && allRight ks
+
+-- least and most are 1 to 255, least not above most
+unfoldable pub rightTimes : ℕ → ℕ → Bool
+rightTimes least most = leb 1 least && (leb least most && leb most 255)
+
+-- the most codecs
+abbrev pub mostCodecs : ℕ
+mostCodecs = 8
+
+unfoldable pub rightCodecs : List Codec → Bool
+rightCodecs ks = between 1 mostCodecs (length ks) && allRight ks
+
+-- the own address is that of one host, and the port is not 0
+unfoldable pub rightConfiguration : Configuration → Bool
+rightConfiguration c =
+    isUnicast (c .own)
+    && (between 1 65535 (c .port)
+    && (rightTimes (c .least) (c .most)
+    && (between 1 30 (c .t1) && (between 1 30 (c .t2) && rightCodecs (c .codecs)))))
+
+-- ---- what a configuration says of codecs and packet times
+-- codec entry n, counted from 1
+unfoldable pub entryIn : List Codec → ℕ → Option Codec
+entryIn ks zero = none
+entryIn [] (suc n) = none
+entryIn (k ∷ ks) (suc zero) = some k
+entryIn (k ∷ ks) (suc (suc n)) = entryIn ks (suc n)
+
+-- a payload that a command names suits the entry
+unfoldable pub suits : Codec → ℕ → Bool
+suits (fixed n) payload = eqb payload n
+suits (named t) payload = between 96 127 payload
+
+-- the text of the rtpmap line that goes with the entry; none is empty
+unfoldable pub nameOf : Codec → List ℕ
+nameOf (fixed n) = []
+nameOf (named t) = t
+
+-- a message's payload and rtpmap text name the entry: from 96 on, where the last is 127, by a text that is the name in every octet
+unfoldable pub names : Codec → ℕ → List ℕ → Bool
+names (fixed n) payload text = eqb payload n
+names (named t) payload text = leb 96 payload && same t text
+
+-- they name one of the entries
+unfoldable pub namedIn : List Codec → ℕ → List ℕ → Bool
+namedIn [] payload text = false
+namedIn (k ∷ ks) payload text = names k payload text || namedIn ks payload text
+
+-- a packet time is in range
+abbrev pub inRange : Configuration → ℕ → Bool
+inRange c n = between (c .least) (c .most) n
+
+-- or none, which is 0
+unfoldable pub noneOrInRange : Configuration → ℕ → Bool
+noneOrInRange c n = eqb n 0 || inRange c n

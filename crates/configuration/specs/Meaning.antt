@@ -1,0 +1,61 @@
+-- What the structs of this crate stand for. A count or a length that goes past its array stands for all of the array, and such
+-- a configuration can't be used.
+use Prim.Native.Nat.{ℕ}
+use mathlib.Core.List.{List, [], _∷_, map}
+use mathlib.Core.Bool.{Bool, true, _&&_, cond}
+use mathlib.Core.Option.{Option, none, some}
+use lib.ListN.{take}
+use lib.Dec.{leb}
+use Rattle.configuration.specs.declared.Format.{Format}
+use Rattle.configuration.specs.declared.Format.the-variants.{Payload, Named}
+use Rattle.configuration.specs.declared.Codec.{Codec as Place}
+use Rattle.configuration.specs.declared.Entry.{Entry}
+use Rattle.configuration.specs.declared.Config.{Config}
+use Rattle.configuration.specs.declared.Checked.{Checked}
+use Rattle.configuration.specs.declared.Checked.the-variants.{Usable, Refused}
+use Rattle.configuration.specs.Configuration.{Codec, fixed, named, Configuration, mostName, mostCodecs, rightConfiguration}
+
+-- an entry whose name is in the array beside its format
+unfoldable pub formatBy : Format → List ℕ → Codec
+formatBy (Payload n) name = fixed n
+formatBy (Named n) name = named (take n name)
+
+abbrev pub codecBy : Place → Codec
+codecBy k = formatBy (k .format) (k .name)
+
+unfoldable pub codecsBy : Config → List Codec
+codecsBy c = map codecBy (take (c .count) (c .codecs))
+
+unfoldable pub configurationBy : Config → Configuration
+configurationBy c = record {
+  own = c .own;
+  port = c .port;
+  least = c .least;
+  most = c .most;
+  t1 = c .t1;
+  t2 = c .t2;
+  codecs = codecsBy c;
+}
+
+-- an entry that was looked for
+abbrev pub entryBy : Entry → Option Codec
+entryBy e = cond (e .known) (some (codecBy (e .codec))) none
+
+-- ---- no count and no length goes past its array
+unfoldable pub formatInside : Format → Bool
+formatInside (Payload n) = true
+formatInside (Named n) = leb n mostName
+
+unfoldable pub allInside : List Place → Bool
+allInside [] = true
+allInside (k ∷ ks) = formatInside (k .format) && allInside ks
+
+unfoldable pub configInside : Config → Bool
+configInside c = leb (c .count) mostCodecs && allInside (take (c .count) (c .codecs))
+
+-- ---- number 12
+unfoldable pub rightConfig : Config → Bool
+rightConfig c = configInside c && rightConfiguration (configurationBy c)
+
+unfoldable pub checked : Config → Checked
+checked c = cond (rightConfig c) Usable (Refused 12)

@@ -1,0 +1,12 @@
+-- What a private function ensures, with the bound that its callers need.
+use Prim.Native.Nat.{ℕ, _≤_}
+use mathlib.Core.Path.{_≡_}
+use lib.ListN.{length}
+use Rattle.configuration.specs.declared.Config.{Config}
+use Rattle.configuration.specs.Configuration.{mostCodecs}
+use Rattle.configuration.specs.Meaning.{codecsBy}
+
+-- r is how many entries there are; the bound is the array's, and is here for callers
+pub record Counted (c : Config) (r : ℕ) : Type 0 where
+  pub is : r ≡ length (codecsBy c)
+  pub few : r ≤ mostCodecs

@@ -1,0 +1,124 @@
+// Whether a configuration can be used.
+ghost use mathlib.Core.Path.{_≡_};
+ghost use mathlib.Core.Bool.{_&&_};
+ghost use lib.ListN.{length};
+ghost use Rattle.configuration.specs.Configuration.{between, allVisible, rightCodec, rightTimes, rightCodecs};
+ghost use Rattle.configuration.specs.Meaning.{codecBy, codecsBy, formatInside, configInside, checked};
+use crate::Checked;
+use crate::Codec;
+use crate::Config;
+use crate::Format;
+use crate::MOST_CODECS;
+use crate::MOST_NAME;
+use octets::spans::up_to;
+
+// n is a to b.
+fn is_between(a: u8, b: u8, n: u8) -> bool
+    ensures { λ r. ⌜ r ≡ between a b n ⌝ }
+{
+    if n < a {
+        return false;
+    }
+    n <= b
+}
+
+// Each octet of s is 33 to 126.
+fn all_visible(s: &[u8]) -> bool
+    ensures { λ r. ⌜ r ≡ allVisible (now (s .entry)) ⌝ }
+{
+    let mut i = 0;
+    while i < s.len() {
+        let b = s[i];
+        if is_between(33, 126, b) {
+            i += 1;
+        } else {
+            return false;
+        }
+    }
+    true
+}
+
+// s can be an encoding name.
+fn right_name(s: &[u8]) -> bool
+    ensures { λ r. ⌜ r ≡ (between 1 32 (length (now (s .entry))) && allVisible (now (s .entry))) ⌝ }
+{
+    if s.len() < 1 {
+        return false;
+    }
+    if MOST_NAME < s.len() {
+        return false;
+    }
+    all_visible(s)
+}
+
+// The entry can be used, and its name lies inside its array.
+fn right_codec(k: Codec) -> bool
+    ensures { λ r. ⌜ r ≡ (formatInside (k .format) && rightCodec (codecBy k)) ⌝ }
+{
+    let format = k.format;
+    let name = k.name;
+    match format {
+        Format::Payload(n) => n <= 95,
+        Format::Named(n) => {
+            if MOST_NAME < n {
+                return false;
+            }
+            right_name(up_to(&name, n))
+        }
+    }
+}
+
+// There are one to eight entries, and each can be used.
+fn right_codecs(c: Config) -> bool
+    ensures { λ r. ⌜ r ≡ (configInside c && rightCodecs (codecsBy c)) ⌝ }
+{
+    let n = c.count;
+    if n < 1 {
+        return false;
+    }
+    if MOST_CODECS < n {
+        return false;
+    }
+    let mut i = 0;
+    while i < n {
+        let k = c.codecs[i];
+        if right_codec(k) {
+            i += 1;
+        } else {
+            return false;
+        }
+    }
+    true
+}
+
+// The range of packet times is one.
+fn right_times(least: u8, most: u8) -> bool
+    ensures { λ r. ⌜ r ≡ rightTimes least most ⌝ }
+{
+    if least < 1 {
+        return false;
+    }
+    least <= most
+}
+
+// Whether the configuration can be used.
+pub fn check(c: Config) -> Checked
+    ensures { λ r. ⌜ r ≡ checked c ⌝ }
+{
+    let own = c.own;
+    if c.port < 1 {
+        return Checked::Refused(12);
+    }
+    if address::is_unicast(own) {
+        if right_times(c.least, c.most) {
+            if is_between(1, 30, c.t1) {
+                if is_between(1, 30, c.t2) {
+                    if right_codecs(c) {
+                        return Checked::Usable;
+                    }
+                }
+            }
+        }
+    }
+    Checked::Refused(12)
+}

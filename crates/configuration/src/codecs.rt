@@ -1,0 +1,118 @@
+// The codec entries of a configuration.
+ghost use mathlib.Core.Path.{_≡_};
+ghost use Rattle.octets.specs.Append.{Appends};
+ghost use Rattle.configuration.specs.Configuration.{suits, nameOf, names, namedIn, entryIn};
+ghost use Rattle.configuration.specs.Meaning.{codecBy, codecsBy, entryBy};
+ghost use Rattle.configuration.specs.Steps.{Counted};
+use crate::Codec;
+use crate::Config;
+use crate::Entry;
+use crate::Format;
+use crate::MOST_CODECS;
+use octets::append::push;
+use octets::spans::up_to;
+use octets::words::equals;
+
+// The payload that a command names suits the entry.
+pub fn suits_entry(k: Codec, payload: u16) -> bool
+    ensures { λ r. ⌜ r ≡ suits (codecBy k) payload ⌝ }
+{
+    let format = k.format;
+    match format {
+        Format::Payload(n) => payload == n as u16,
+        Format::Named(_) => {
+            if payload < 96 {
+                return false;
+            }
+            payload <= 127
+        }
+    }
+}
+
+// Appends the text of the rtpmap line that goes with the entry.
+pub fn push_name(k: Codec, out: &mut [u8], at: usize) -> usize
+    ensures { λ r. ⌜ Appends (now (out .entry)) at (nameOf (codecBy k)) r (now (out .exit)) ⌝ }
+{
+    let format = k.format;
+    let name = k.name;
+    match format {
+        Format::Payload(_) => at,
+        Format::Named(n) => push(up_to(&name, n), out, at),
+    }
+}
+
+// A message's payload and rtpmap text name the entry.
+fn names_entry(k: Codec, payload: u8, text: &[u8]) -> bool
+    ensures { λ r. ⌜ r ≡ names (codecBy k) payload (now (text .entry)) ⌝ }
+{
+    let format = k.format;
+    let name = k.name;
+    match format {
+        Format::Payload(n) => payload == n,
+        Format::Named(n) => {
+            if payload < 96 {
+                return false;
+            }
+            equals(up_to(&name, n), text)
+        }
+    }
+}
+
+// How many entries there are, at most as many as the array holds.
+fn entries(c: Config) -> usize
+    ensures { λ r. ⌜ Counted c r ⌝ }
+{
+    let n = c.count;
+    if MOST_CODECS < n {
+        return MOST_CODECS;
+    }
+    n
+}
+
+// They name one of the entries.
+pub fn names_any(c: Config, payload: u8, text: &[u8]) -> bool
+    ensures { λ r. ⌜ r ≡ namedIn (codecsBy c) payload (now (text .entry)) ⌝ }
+{
+    let n = entries(c);
+    let mut i = 0;
+    while i < n {
+        let k = c.codecs[i];
+        if names_entry(k, payload, text) {
+            return true;
+        }
+        i += 1;
+    }
+    false
+}
+
+// Codec entry n, counted from 1.
+pub fn entry_at(c: Config, n: u16) -> Entry
+    ensures { λ r. ⌜ entryBy r ≡ entryIn (codecsBy c) n ⌝ }
+{
+    let count = entries(c);
+    let at = n as usize;
+    if at < 1 {
+        return Entry {
+            known: false,
+            codec: blank(),
+        };
+    }
+    if count < at {
+        return Entry {
+            known: false,
+            codec: blank(),
+        };
+    }
+    let i = at - 1;
+    let codec = c.codecs[i];
+    Entry { known: true, codec }
+}
+
+// An entry that says nothing.
+fn blank() -> Codec {
+    let name = [0u8; 32];
+    Codec {
+        format: Format::Payload(0),
+        name,
+    }
+}

@@ -1,0 +1,64 @@
+// An endpoint's configuration: whether it can be used, and which codec a command or a message names.
+pub mod check;
+pub mod codecs;
+
+ghost use mathlib.Core.Path.{_≡_};
+ghost use Rattle.configuration.specs.Configuration.{noneOrInRange};
+ghost use Rattle.configuration.specs.Meaning.{configurationBy};
+use address::Address;
+
+// The most codec entries, and the longest encoding name.
+pub const MOST_CODECS: usize = 8;
+
+pub const MOST_NAME: usize = 32;
+
+// How a codec entry is known: by a payload, or by an encoding name of so many octets.
+pub enum Format {
+    Payload(u8),
+    Named(usize),
+}
+
+// A codec entry. An enum holds no array, so the name stands beside the format.
+pub struct Codec {
+    pub format: Format,
+    pub name: [u8; MOST_NAME],
+}
+
+// A configuration, of which the first `count` codecs are entries.
+pub struct Config {
+    pub own: Address,
+    pub port: u16,
+    pub least: u8,
+    pub most: u8,
+    pub t1: u8,
+    pub t2: u8,
+    pub count: usize,
+    pub codecs: [Codec; MOST_CODECS],
+}
+
+// Whether a configuration can be used, or document 01's number.
+pub enum Checked {
+    Usable,
+    Refused(u8),
+}
+
+// A codec entry that was looked for; where it is not known, the codec says nothing.
+pub struct Entry {
+    pub known: bool,
+    pub codec: Codec,
+}
+
+// The packet time n is none, which is 0, or in range.
+pub fn none_or_in_range(c: Config, n: u16) -> bool
+    ensures { λ r. ⌜ r ≡ noneOrInRange (configurationBy c) n ⌝ }
+{
+    let least = c.least as u16;
+    let most = c.most as u16;
+    if n == 0 {
+        return true;
+    }
+    if n < least {
+        return false;
+    }
+    n <= most
+}

@@ -1,0 +1,74 @@
+-- Demand 3 holds of every run of the endpoint's methods: by their contracts a run of a fresh endpoint is the book's log, of which
+-- `struck` holds, since the rules meet its laws (`rule-laws`).
+-- Assumes nothing.
+use Prim.Native.Nat.{ℕ}
+use mathlib.Core.Path.{_≡_, refl, sym, _∙_, ap, ap₂, subst}
+use mathlib.Core.List.{List, [], _∷_, _++_, foldl-append, Sublistᴰ}
+use lib.ListN.{length, drop}
+use lib.Seq.{take-at}
+use Rattle.book.specs.declared.State.the-variants.{Idle}
+use Rattle.book.specs.Book.{idle, settled, answered, refusal, answer}
+use Rattle.book.specs.Book as told
+use Rattle.book.specs.Strike as strike
+use Rattle.book.specs.Strike.{logged, logOf, keptOf, eventsOf, lastSettled}
+use Rattle.book.proofs.Struck.{struck}
+use Rattle.media.specs.Stream.{Stream}
+use Rattle.configuration.specs.declared.Config.{Config}
+use Rattle.configuration.specs.Meaning.{configurationBy}
+use Rattle.bearer.specs.Bearer.{Bearer}
+use Rattle.bearer.specs.Meaning.{requestBy, bearerBy}
+use Rattle.endpoint.specs.declared.Endpoint.{Endpoint}
+use Rattle.endpoint.specs.declared.Answer.{Answer}
+use Rattle.endpoint.specs.Rule.{Event, Given, rule, exchanged}
+use Rattle.endpoint.specs.Step.{bookBy, bookOf, replyFor, outFor, Did}
+use Rattle.endpoint.specs.Claim.{Line, toldBy, seen, Runs, begun, after, Fresh, kept, Demand3}
+use Rattle.endpoint.proofs.Ruled.{rule-laws}
+
+abbrev Log : Type 0
+Log = strike.Log Bearer Stream Given
+
+-- the rules of an endpoint's configuration
+abbrev ruleOf : Config → told.Book Bearer Stream → Given → told.Verdict Bearer Stream
+ruleOf c = rule (configurationBy c)
+
+-- what the caller is told is the answer
+pub told-back : (a : told.Answer) (xs : List ℕ) → toldBy (replyFor a) (outFor a xs) ≡ a
+told-back (refusal n) xs = refl
+told-back (answer s n o d) xs = ap (λ (p : List ℕ). answer s n p d) (take-at o (drop (length o) xs) (length o) refl)
+
+-- a step adds the book's line, and leaves the book's book
+stepped : (f : Endpoint) (ls : List Line) (x : Event) (xs ys : List ℕ) (r : Answer) → Did f x xs ys r
+    → _≡_ {A = Log} (record { book = bookOf (r .endpoint); lines = ls ++ (seen x xs ys r ∷ []) })
+    (logged (ruleOf (f .config)) (record { book = bookOf f; lines = ls }) (record { event = x; room = length xs }))
+stepped f ls x xs ys r did =
+    let g : Given = record { event = x; room = length xs } in
+    let a = answered (bookOf f) (ruleOf (f .config) (bookOf f) g) in
+    let told : toldBy (r .reply) ys ≡ a = ap₂ toldBy (did .reply) (did .out) ∙ told-back a xs in
+    λ i. record { book = did .book i; lines = ls ++ (record { event = g; reply = told i; bearer = settled (did .book i) } ∷ []) }
+
+-- a run of a fresh endpoint is the book's log
+follows : (c : Config) (e : Endpoint) → Fresh c e → {gs : List Given} {ls : List Line} {f : Endpoint} → Runs e gs ls f
+    → (f .config ≡ c) × (_≡_ {A = Log} (record { book = bookOf f; lines = ls }) (logOf (ruleOf c) gs))
+unfolding logOf
+follows c e h begun = (h .config, λ i. record { book = bookBy (h .idle i) (e .side) (requestBy (e .request)) (bearerBy (e .bearer)); lines = [] })
+follows c e h (after {gs} {ls} {f} run x xs ys r did) =
+    let p = follows c e h run in
+    let g : Given = record { event = x; room = length xs } in (
+      did .config ∙ p .0,
+      stepped f ls x xs ys r did
+          ∙ (λ i. logged (ruleOf (p .0 i)) (p .1 i) g)
+          ∙ sym (foldl-append (logged (ruleOf c)) (record { book = idle; lines = [] }) gs (g ∷ [])),
+    )
+
+-- every list of events, with every message and buffer, on every fresh endpoint of every configuration that is not refused
+pub demand3 : (c : Config) (e : Endpoint) → Fresh c e → (gs : List Given) (ls : List Line) (f : Endpoint) → Runs e gs ls f → Demand3 c gs ls f
+demand3 c e h gs ls f run =
+    let s = struck (ruleOf c) (rule-laws (configurationBy c)) gs in
+    let p = follows c e h run .1 in
+    record {
+      by-book = ap (λ (l : Log). l .lines) p;
+      part = subst (λ (xs : List Line). Sublistᴰ (kept c gs) xs) (sym (ap (λ (l : Log). l .lines) p)) (s .part);
+      same-lines = λ e′ ls′ f′ h′ run′. ap (λ (l : Log). l .lines) (follows c e′ h′ run′ .1) ∙ s .same-lines;
+      same-bearer = λ e′ ls′ f′ h′ run′. ap (λ (l : Log). settled (l .book)) (follows c e′ h′ run′ .1) ∙ ap settled (s .same-book) ∙ ap (λ (l : Log). settled (l .book)) (sym p);
+      in-force = ap (λ (l : Log). settled (l .book)) p ∙ s .in-force ∙ ap (λ (l : Log). lastSettled (exchanged (configurationBy c)) (l .lines)) (sym p);
+    }

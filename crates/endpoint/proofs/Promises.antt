@@ -1,0 +1,262 @@
+-- What a reader can quote of one event: from the contract of its method alone, by cases on the rules' verdict.
+-- Assumes nothing.
+use Prim.Native.Nat.{ℕ, _≤_}
+use mathlib.Core.Path.{_≡_, refl, sym, _∙_, ap, ap₂, subst}
+use mathlib.Core.Bool.{Bool, true, false, cond, and-eq-true-iff, false≢true}
+use mathlib.Core.List.{List}
+use mathlib.Core.Option.{Option, none, some, Option·none-ne-some}
+use lib.ListN.{length}
+use lib.Dec.{eqb, leb}
+use native.Mathlib.Omega.{arith}
+use borrow.Author.Tests.{le-ltb, le-leb}
+use Rattle.octets.proofs.CaseLaws.{by-bool}
+use Rattle.book.specs.declared.State.{State}
+use Rattle.book.specs.declared.State.the-variants.{Up}
+use Rattle.book.specs.declared.Side.the-variants.{I, R}
+use Rattle.book.specs.declared.Notice.{Notice}
+use Rattle.book.specs.declared.Notice
+use Rattle.book.specs.Book.{idle, awaitSetup, up, awaitChange, settled, awaited, ignores, closed, settling, stateOf, moved, answered, byBearer, drops}
+use Rattle.book.specs.Book.{refused, discarded, opened, agreed, failed, released, confused, accepted, rejected}
+use Rattle.book.specs.Strike.{heldBy}
+use Rattle.book.proofs.Struck.{held-more}
+use Rattle.media.specs.Stream.{Stream}
+use Rattle.ipbcp.specs.declared.Kind as kinds
+use Rattle.ipbcp.specs.declared.Kind.the-variants as kind
+use Rattle.ipbcp.specs.declared.Head.{Head}
+use Rattle.ipbcp.specs.declared.Head.the-variants.{Typed, Untyped}
+use Rattle.ipbcp.specs.Types.{headIn}
+use Rattle.ipbcp.specs.Reading.{Reading, typed, described, readMessage}
+use Rattle.ipbcp.specs.Reading as reading
+use Rattle.ipbcp.specs.Writing as writing
+use Rattle.ipbcp.specs.Writing.{messageText, octetsOf}
+use Rattle.configuration.specs.Configuration.{Configuration, rightConfiguration}
+use Rattle.configuration.specs.Meaning.{configurationBy, configInside, rightConfig}
+use Rattle.bearer.specs.Bearer.{Bearer}
+use Rattle.bearer.specs.Hearing as hears
+use Rattle.bearer.specs.Hearing.{Heard, heard, heardBy, bearerIn}
+use Rattle.bearer.specs.Judging.{commanded, rightRequest, granted, answerTo, rightAccepted}
+use Rattle.bearer.proofs.Writable.{confused-octets, rejected-octets, commanded-octets, answered-octets}
+use Rattle.endpoint.specs.declared.Endpoint.{Endpoint}
+use Rattle.endpoint.specs.declared.Answer.{Answer}
+use Rattle.endpoint.specs.declared.Reply.{Reply}
+use Rattle.endpoint.specs.declared.Reply.the-variants.{Refused, Done}
+use Rattle.endpoint.specs.Rule.{Book, Verdict, Event, Given, commanding, confusing, rejecting, judging, taking, answering, hearing, ruled, rule, exchanged}
+use Rattle.endpoint.specs.Step.{bookOf, written, replyFor, outFor, Gave, Did}
+use Rattle.endpoint.specs.Claim.{toldBy}
+use Rattle.endpoint.specs.Promises.{rightIn, isRightAccepted, Takes, isRightRequest, Answers, Judges}
+use Rattle.endpoint.proofs.Ruled.{rule-laws}
+use Rattle.endpoint.proofs.Demand.{told-back}
+
+-- ---- demand 1: a refusal alters nothing
+no-refusal : {r : Reply} {s : State} {n : Notice} {w : ℕ} {d : Bool} {m : ℕ} → r ≡ Done s n w d → r ≡ Refused m → ⊥
+no-refusal p q = let z : _≡_ {A = ℕ} 0 1 = cc in omega arith
+
+refused-gave : (self : Endpoint) (v : Verdict) (xs ys : List ℕ) (r : Answer) (n : ℕ) → Gave self v xs ys r → r .reply ≡ Refused n → (r .endpoint ≡ self) × (ys ≡ xs)
+refused-gave self (refused m) xs ys r n g e = (g .unaltered, g .out)
+refused-gave self discarded xs ys r n g e = absurd (no-refusal (g .reply) e)
+refused-gave self (opened q o) xs ys r n g e = absurd (no-refusal (g .reply) e)
+refused-gave self (agreed b) xs ys r n g e = absurd (no-refusal (g .reply) e)
+refused-gave self failed xs ys r n g e = absurd (no-refusal (g .reply) e)
+refused-gave self released xs ys r n g e = absurd (no-refusal (g .reply) e)
+refused-gave self (confused o) xs ys r n g e = absurd (no-refusal (g .reply) e)
+refused-gave self (accepted b o) xs ys r n g e = absurd (no-refusal (g .reply) e)
+refused-gave self (rejected o) xs ys r n g e = absurd (no-refusal (g .reply) e)
+
+-- the endpoint and the buffer are as they were
+pub refusal-alters-nothing : (self : Endpoint) (e : Event) (xs ys : List ℕ) (r : Answer) (n : ℕ) → Did self e xs ys r → r .reply ≡ Refused n → (r .endpoint ≡ self) × (ys ≡ xs)
+refusal-alters-nothing self e xs ys r n did p = refused-gave self _ xs ys r n did p
+
+-- ---- demand 3: the bearer in force
+-- It changes by an exchange that succeeds, whose bearer it then is, and by a release; by nothing else: `held` says so by the notice.
+pub bearer-changes : (self : Endpoint) (e : Event) (xs ys : List ℕ) (r : Answer) → Did self e xs ys r
+    → settled (bookOf (r .endpoint)) ≡ heldBy (toldBy (r .reply) ys) (settled (bookOf self)) (exchanged (configurationBy (self .config)) (record { event = e; room = length xs }))
+bearer-changes self e xs ys r did =
+    let c = configurationBy (self .config) in
+    let g : Given = record { event = e; room = length xs } in
+    let v = rule c (bookOf self) g in
+    let told : toldBy (r .reply) ys ≡ answered (bookOf self) v = told-by did in
+    ap settled (did .book) ∙ held-more (rule c) (rule-laws c) (bookOf self) g v refl ∙ ap (λ a. heldBy a (settled (bookOf self)) (exchanged c g)) (sym told)
+  where
+    told-by : Did self e xs ys r → toldBy (r .reply) ys ≡ answered (bookOf self) (rule (configurationBy (self .config)) (bookOf self) (record { event = e; room = length xs }))
+    told-by did = ap₂ toldBy (did .reply) (did .out) ∙ told-back (answered (bookOf self) (rule (configurationBy (self .config)) (bookOf self) (record { event = e; room = length xs }))) xs
+
+-- ---- from an event to the rules' verdict
+gave-ruled : (self : Endpoint) (e : Event) (xs ys : List ℕ) (r : Answer) (v : Verdict) → Did self e xs ys r → 512 ≤ length xs → ruled (configurationBy (self .config)) (bookOf self) e ≡ v → Gave self v xs ys r
+unfolding rule
+gave-ruled self e xs ys r v did l p =
+    subst (λ (w : Verdict). Gave self w xs ys r) (ap (λ (t : Bool). cond t (refused 4) (ruled (configurationBy (self .config)) (bookOf self) e)) (le-ltb (length xs) 512 l) ∙ p) did
+
+-- ---- demand 2: an Accepted puts its bearer in force exactly when it is right
+heard-accepted : (m : List ℕ) (version : ℕ) → length m ≤ 512 → headIn m ≡ Typed version kind.Accepted → heard m ≡ hears.accepted (bearerIn (readMessage m))
+unfolding heard heardBy
+heard-accepted m version l h = rw (le-leb (length m) 512 l, h)
+
+module _ (c : Configuration) (f : Option Bearer) (q : Stream) where
+  taking-right : (o : Option Bearer) (d : Bearer) → o ≡ some d → rightIn (rightAccepted c f q) o ≡ true → taking c f q o ≡ agreed d
+  taking-right none d e h = absurd (Option·none-ne-some d e)
+  taking-right (some x) d e h = let same : x ≡ d = cc in rw h (ap (λ b. agreed b) same)
+
+  taking-wrong : (o : Option Bearer) → rightIn (rightAccepted c f q) o ≡ false → taking c f q o ≡ failed
+  taking-wrong none h = refl
+  taking-wrong (some x) h = rw h
+
+-- m is an Accepted of any version, not too long, and comes while our Request q is open, with a buffer that is long enough
+pub accepted-exactly : (self : Endpoint) (q : Stream) (m xs ys : List ℕ) (version : ℕ) (r : Answer) → Did self (Event.message m) xs ys r
+    → 512 ≤ length xs → length m ≤ 512 → headIn m ≡ Typed version kind.Accepted → awaited (bookOf self) ≡ some q → Takes self q m r
+accepted-exactly self q m xs ys version r did room short head awaits =
+    record {
+      right = λ d e h. let g = gave (agreed d) (taking-right c (settled (bookOf self)) q (bearerIn (readMessage m)) d e h) in (g .book, g .reply);
+      wrong = λ h. let g = gave failed (taking-wrong c (settled (bookOf self)) q (bearerIn (readMessage m)) h) in (g .book, g .reply);
+    }
+  where
+    c : Configuration
+    c = configurationBy (self .config)
+
+    gave : (v : Verdict) → taking c (settled (bookOf self)) q (bearerIn (readMessage m)) ≡ v → Gave self v xs ys r
+    gave v p =
+        gave-ruled self (Event.message m) xs ys r v did room
+        (ap (hearing c (bookOf self)) (heard-accepted m version short head)
+        ∙ ap (λ (o : Option Stream). answering o (λ x. taking c (settled (bookOf self)) x (bearerIn (readMessage m)))) awaits
+        ∙ p)
+
+-- ---- demand 2: a peer's Request is accepted exactly when it is right
+heard-request : (m : List ℕ) → length m ≤ 512 → headIn m ≡ Typed 1 kind.Request → heard m ≡ hears.request (bearerIn (readMessage m))
+unfolding heard heardBy
+heard-request m l h = rw (le-leb (length m) 512 l, h)
+
+described-named : (x : Reading) (d : Bearer) → bearerIn x ≡ some d → (k : kinds.Kind) × (x ≡ described k (d .address) (d .stream))
+unfolding bearerIn
+described-named (reading.refused n) d e = absurd (Option·none-ne-some d e)
+described-named (typed v k) d e = absurd (Option·none-ne-some d e)
+described-named (described k a s) d e = (k, cc)
+
+usable : (self : Endpoint) → rightConfig (self .config) ≡ true → rightConfiguration (configurationBy (self .config)) ≡ true
+unfolding rightConfig
+usable self h = and-eq-true-iff (configInside (self .config)) (rightConfiguration (configurationBy (self .config))) .0 h .1
+
+module _ (c : Configuration) (right : rightConfiguration c ≡ true) where
+  rejecting-is : rejecting c ≡ rejected (messageText (c .own) writing.rejected)
+  rejecting-is = rw (rejected-octets c right)
+
+  confusing-is : confusing c ≡ confused (messageText (c .own) writing.confused)
+  confusing-is = rw (confused-octets c right)
+
+  module _ (m : List ℕ) (f : Option Bearer) where
+    judging-right : (d : Bearer) → bearerIn (readMessage m) ≡ some d → rightIn (rightRequest c f) (bearerIn (readMessage m)) ≡ true
+        → judging c f (bearerIn (readMessage m)) ≡ accepted (granted c d) (messageText (c .own) (writing.accepted (answerTo c d)))
+    judging-right d e h =
+        let (k, is) = described-named (readMessage m) d e in
+        let t : rightRequest c f d ≡ true = rw e at h in
+        rw (e, t, answered-octets c right m k f d is t)
+
+    judging-wrong : (o : Option Bearer) → rightIn (rightRequest c f) o ≡ false → judging c f o ≡ rejected (messageText (c .own) writing.rejected)
+    judging-wrong none h = rejecting-is
+    judging-wrong (some d) h = rw h rejecting-is
+
+-- m is a Request of version 1, not too long, and comes where Requests are not discarded, with a buffer that is long enough, to an
+-- endpoint whose configuration is not refused
+pub request-exactly : (self : Endpoint) (m xs ys : List ℕ) (r : Answer) → rightConfig (self .config) ≡ true → Did self (Event.message m) xs ys r
+    → 512 ≤ length xs → length m ≤ 512 → headIn m ≡ Typed 1 kind.Request → ignores (bookOf self) ≡ false → Judges self m xs ys r
+unfolding configurationBy
+request-exactly self m xs ys r config did room short head heeds =
+    record {
+      right = λ d e h.
+          let g = gave _ (judging-right c (usable self config) m (settled (bookOf self)) d e h) in
+          (g .book, record { out = g .out; reply = g .reply });
+      wrong = λ h.
+          let g = gave _ (judging-wrong c (usable self config) m (settled (bookOf self)) (bearerIn (readMessage m)) h) in
+          (g .book, record { out = g .out; reply = g .reply });
+    }
+  where
+    c : Configuration
+    c = configurationBy (self .config)
+
+    gave : (v : Verdict) → judging c (settled (bookOf self)) (bearerIn (readMessage m)) ≡ v → Gave self v xs ys r
+    gave v p =
+        gave-ruled self (Event.message m) xs ys r v did room
+        (ap (hearing c (bookOf self)) (heard-request m short head)
+        ∙ ap (λ (t : Bool). cond t discarded (judging c (settled (bookOf self)) (bearerIn (readMessage m)))) heeds
+        ∙ p)
+
+-- ---- an endpoint whose configuration is not refused refuses no message but for a short buffer, and no command that has a Request
+abbrev Answered : Verdict → Type 0
+Answered (refused n) = ⊥
+Answered discarded = Unit {0}
+Answered (opened q o) = Unit {0}
+Answered (agreed b) = Unit {0}
+Answered failed = Unit {0}
+Answered released = Unit {0}
+Answered (confused o) = Unit {0}
+Answered (accepted b o) = Unit {0}
+Answered (rejected o) = Unit {0}
+
+unrefused : (self : Endpoint) (v : Verdict) (xs ys : List ℕ) (r : Answer) (n : ℕ) → Gave self v xs ys r → Answered v → r .reply ≡ Refused n → ⊥
+unrefused self (refused m) xs ys r n g a e = a
+unrefused self discarded xs ys r n g a e = no-refusal (g .reply) e
+unrefused self (opened q o) xs ys r n g a e = no-refusal (g .reply) e
+unrefused self (agreed b) xs ys r n g a e = no-refusal (g .reply) e
+unrefused self failed xs ys r n g a e = no-refusal (g .reply) e
+unrefused self released xs ys r n g a e = no-refusal (g .reply) e
+unrefused self (confused o) xs ys r n g a e = no-refusal (g .reply) e
+unrefused self (accepted b o) xs ys r n g a e = no-refusal (g .reply) e
+unrefused self (rejected o) xs ys r n g a e = no-refusal (g .reply) e
+
+-- a Request of version 1 names what can be read of it
+request-names : (m : List ℕ) (d : Option Bearer) → heard m ≡ hears.request d → d ≡ bearerIn (readMessage m)
+unfolding heard heardBy
+request-names m d e =
+    by-bool (leb (length m) 512) _
+    (λ l. go (headIn m) (rw l at e))
+    (λ l. let w : hears.unreadable ≡ hears.request d = rw l at e in absurd (let z : _≡_ {A = ℕ} 0 1 = cc in omega arith))
+  where
+    go : (y : Head) → heardBy y (readMessage m) ≡ hears.request d → d ≡ bearerIn (readMessage m)
+    go Untyped w = absurd (let z : _≡_ {A = ℕ} 0 1 = cc in omega arith)
+    go (Typed v kind.Request) w =
+        by-bool (eqb v 1) _
+        (λ t. let x : hears.request (bearerIn (readMessage m)) ≡ hears.request d = rw t at w in cc)
+        (λ t. let x : hears.otherRequest ≡ hears.request d = rw t at w in absurd (let z : _≡_ {A = ℕ} 0 1 = cc in omega arith))
+    go (Typed v kind.Accepted) w = absurd (let z : _≡_ {A = ℕ} 0 1 = cc in omega arith)
+    go (Typed v kind.Confused) w = absurd (let z : _≡_ {A = ℕ} 0 1 = cc in omega arith)
+    go (Typed v kind.Rejected) w = absurd (let z : _≡_ {A = ℕ} 0 1 = cc in omega arith)
+
+answering-answered : (o : Option Stream) (v : Stream → Verdict) → ((q : Stream) → Answered (v q)) → Answered (answering o v)
+answering-answered none v a = tt
+answering-answered (some q) v a = a q
+
+picked : (t : Bool) (v w : Verdict) → Answered v → Answered w → Answered (cond t v w)
+picked true v w p q = p
+picked false v w p q = q
+
+module _ (c : Configuration) (right : rightConfiguration c ≡ true) (m : List ℕ) where
+  judging-answered : (f : Option Bearer) → Answered (judging c f (bearerIn (readMessage m)))
+  judging-answered f =
+      by-bool (rightIn (rightRequest c f) (bearerIn (readMessage m))) _
+      (λ h. go (bearerIn (readMessage m)) refl h)
+      (λ h. subst Answered (sym (judging-wrong c right m f (bearerIn (readMessage m)) h)) tt)
+    where
+      go : (o : Option Bearer) → bearerIn (readMessage m) ≡ o → rightIn (rightRequest c f) (bearerIn (readMessage m)) ≡ true → Answered (judging c f (bearerIn (readMessage m)))
+      go none e h = let z : false ≡ true = rw e at h in absurd (false≢true z)
+      go (some d) e h = subst Answered (sym (judging-right c right m f d e h)) tt
+
+  taking-answered : (f : Option Bearer) (q : Stream) (o : Option Bearer) → Answered (taking c f q o)
+  taking-answered f q none = tt
+  taking-answered f q (some d) = picked (rightAccepted c f q d) (agreed d) failed tt tt
+
+  hearing-answered : (k : Book) (h : Heard) → heard m ≡ h → Answered (hearing c k h)
+  hearing-answered k hears.unreadable e = tt
+  hearing-answered k hears.otherRequest e = picked (ignores k) discarded (confusing c) tt (subst Answered (sym (confusing-is c right)) tt)
+  hearing-answered k (hears.request d) e =
+      picked (ignores k) discarded (judging c (settled k) d) tt
+      (subst (λ (o : Option Bearer). Answered (judging c (settled k) o)) (sym (request-names m d e)) (judging-answered (settled k)))
+  hearing-answered k (hears.accepted d) e = answering-answered (awaited k) (λ q. taking c (settled k) q d) (λ q. taking-answered (settled k) q d)
+  hearing-answered k hears.declined e = answering-answered (awaited k) (λ q. failed) (λ q. tt)
+
+pub message-answered : (self : Endpoint) (m xs ys : List ℕ) (r : Answer) (n : ℕ) → rightConfig (self .config) ≡ true → Did self (Event.message m) xs ys r → 512 ≤ length xs → r .reply ≡ Refused n → ⊥
+message-answered self m xs ys r n config did room e =
+    unrefused self _ xs ys r n (gave-ruled self (Event.message m) xs ys r _ did room refl)
+    (hearing-answered (configurationBy (self .config)) (usable self config) m (bookOf self) (heard m) refl) e
+
+-- such a command writes the octets of its Request, and opens it
+pub commanding-opens : (c : Configuration) → rightConfiguration c ≡ true → (entry payload ptime : ℕ) (q : Stream) → commanded c entry payload ptime ≡ some q
+    → commanding c (commanded c entry payload ptime) ≡ opened q (messageText (c .own) (writing.request q))
+commanding-opens c right entry payload ptime q e = rw (e, commanded-octets c right entry payload ptime q e)

@@ -1,0 +1,255 @@
+-- The rules of "One endpoint" meet what the claim on failed attempts asks of a rule, whatever the reader and the judge answer: none
+-- of them is looked into. A verdict's kind and the bearer that it settles tell two verdicts apart.
+-- Assumes nothing.
+use Prim.Native.Nat.{ℕ, _≤_, _<_}
+use mathlib.Core.Path.{_≡_, refl, sym, _∙_, ap}
+use mathlib.Core.Bool.{Bool, true, false, cond}
+use mathlib.Core.List.{List}
+use mathlib.Core.Option.{Option, none, some, Option·none-ne-some}
+use lib.Dec.{ltb, lit≤}
+use native.Mathlib.Omega.{arith}
+use Rattle.book.specs.declared.Side.{Side}
+use Rattle.book.specs.declared.Side.the-variants.{I, R}
+use Rattle.book.specs.Book.{idle, awaitSetup, up, awaitChange, ignores, settled}
+use Rattle.book.specs.Book.{refused, discarded, opened, agreed, failed, released, confused, accepted, rejected}
+use Rattle.book.specs.Strike.{Laws}
+use Rattle.media.specs.Stream.{Stream}
+use Rattle.ipbcp.specs.Writing as writing
+use Rattle.ipbcp.specs.Writing.{octetsOf}
+use Rattle.configuration.specs.Configuration.{Configuration}
+use Rattle.bearer.specs.Bearer.{Bearer}
+use Rattle.bearer.specs.Hearing as hears
+use Rattle.bearer.specs.Hearing.{Heard, heard}
+use Rattle.bearer.specs.Judging.{commanded, rightRequest, granted, answerTo, rightAccepted}
+use Rattle.endpoint.specs.Rule.{Book, Verdict, Event, setUp, change, release, t1, t2, message, Given, said, commanding, confusing, rejecting, judging, taking, hearing, ruled, rule, exchangeBy, exchangedIn, exchanged}
+
+-- which verdict it is: 0 opened, 1 released, 2 accepted, 3 agreed, 4 another
+abbrev which : Verdict → ℕ
+which (refused n) = 4
+which discarded = 4
+which (opened q o) = 0
+which (agreed b) = 3
+which failed = 4
+which released = 1
+which (confused o) = 4
+which (accepted b o) = 2
+which (rejected o) = 4
+
+-- the bearer that a verdict settles
+abbrev settles : Verdict → Option Bearer
+settles (refused n) = none
+settles discarded = none
+settles (opened q o) = none
+settles (agreed b) = some b
+settles failed = none
+settles released = none
+settles (confused o) = none
+settles (accepted b o) = some b
+settles (rejected o) = none
+
+-- two verdicts of different kinds are not equal
+apart : (v w : Verdict) (n : ℕ) → v ≡ w → n ≤ which v → which w < n → ⊥
+apart v w n e p q = omega (arith, ap which e)
+
+-- what holds of both verdicts holds of the one that a test picks
+either : (P : Verdict → Type 0) (t : Bool) (v w : Verdict) → P v → P w → P (cond t v w)
+either P true v w p q = p
+either P false v w p q = q
+
+-- what holds of number 5, and of the verdict with any octets, holds of a message that is written
+saying : (P : Verdict → Type 0) (o : Option (List ℕ)) (v : List ℕ → Verdict) → P (refused 5) → ((x : List ℕ) → P (v x)) → P (said o v)
+saying P none v p q = p
+saying P (some o) v p q = q o
+
+module _ (c : Configuration) where
+  -- ---- which verdicts a message can get
+  rejecting-which : 2 ≤ which (rejecting c)
+  rejecting-which = saying (λ v. 2 ≤ which v) (octetsOf (c .own) writing.rejected) (λ o. rejected o) (lit≤ tt) (λ o. lit≤ tt)
+
+  judging-which : (f d : Option Bearer) → 2 ≤ which (judging c f d)
+  judging-which f none = rejecting-which
+  judging-which f (some d) =
+      either (λ v. 2 ≤ which v) (rightRequest c f d) _ _
+      (saying (λ v. 2 ≤ which v) (octetsOf (c .own) (writing.accepted (answerTo c d))) (λ o. accepted (granted c d) o) (lit≤ tt) (λ o. lit≤ tt))
+      rejecting-which
+
+  taking-which : (f : Option Bearer) (q : Stream) (d : Option Bearer) → 3 ≤ which (taking c f q d)
+  taking-which f q none = lit≤ tt
+  taking-which f q (some d) = either (λ v. 3 ≤ which v) (rightAccepted c f q d) _ _ (lit≤ tt) (lit≤ tt)
+
+  confusing-which : 3 ≤ which (confusing c)
+  confusing-which = saying (λ v. 3 ≤ which v) (octetsOf (c .own) writing.confused) (λ o. confused o) (lit≤ tt) (λ o. lit≤ tt)
+
+  -- where Requests are discarded, no message is accepted
+  deaf-which : (k : Book) → ignores k ≡ true → (h : Heard) → 3 ≤ which (hearing c k h)
+  deaf-which k e hears.unreadable = lit≤ tt
+  deaf-which k e hears.otherRequest = rw e (lit≤ tt)
+  deaf-which k e (hears.request d) = rw e (lit≤ tt)
+  deaf-which idle e (hears.accepted d) = lit≤ tt
+  deaf-which (awaitSetup q) e (hears.accepted d) = taking-which none q d
+  deaf-which (up s b) e (hears.accepted d) = lit≤ tt
+  deaf-which (awaitChange s b q) e (hears.accepted d) = taking-which (some b) q d
+  deaf-which idle e hears.declined = lit≤ tt
+  deaf-which (awaitSetup q) e hears.declined = lit≤ tt
+  deaf-which (up s b) e hears.declined = lit≤ tt
+  deaf-which (awaitChange s b q) e hears.declined = lit≤ tt
+
+  hearing-which : (k : Book) (h : Heard) → 2 ≤ which (hearing c k h)
+  hearing-which k hears.unreadable = lit≤ tt
+  hearing-which k hears.otherRequest = either (λ v. 2 ≤ which v) (ignores k) _ _ (lit≤ tt) (omega (arith, confusing-which))
+  hearing-which k (hears.request d) = either (λ v. 2 ≤ which v) (ignores k) _ _ (lit≤ tt) (judging-which (settled k) d)
+  hearing-which idle (hears.accepted d) = lit≤ tt
+  hearing-which (awaitSetup q) (hears.accepted d) = omega (arith, taking-which none q d)
+  hearing-which (up s b) (hears.accepted d) = lit≤ tt
+  hearing-which (awaitChange s b q) (hears.accepted d) = omega (arith, taking-which (some b) q d)
+  hearing-which idle hears.declined = lit≤ tt
+  hearing-which (awaitSetup q) hears.declined = lit≤ tt
+  hearing-which (up s b) hears.declined = lit≤ tt
+  hearing-which (awaitChange s b q) hears.declined = lit≤ tt
+
+  -- ---- while a Request is open
+  -- no command is taken
+  setup-which : (q : Stream) (e : Event) → 1 ≤ which (ruled c (awaitSetup q) e)
+  setup-which q (setUp n p t) = lit≤ tt
+  setup-which q (change n p t) = lit≤ tt
+  setup-which q release = lit≤ tt
+  setup-which q t1 = lit≤ tt
+  setup-which q t2 = lit≤ tt
+  setup-which q (message m) = omega (arith, hearing-which (awaitSetup q) (heard m))
+
+  change-which : (s : Side) (b : Bearer) (q : Stream) (e : Event) → 1 ≤ which (ruled c (awaitChange s b q) e)
+  change-which s b q (setUp n p t) = lit≤ tt
+  change-which s b q (change n p t) = lit≤ tt
+  change-which s b q release = lit≤ tt
+  change-which s b q t1 = lit≤ tt
+  change-which s b q t2 = lit≤ tt
+  change-which s b q (message m) = omega (arith, hearing-which (awaitChange s b q) (heard m))
+
+  -- no Request is accepted while a set-up is awaited
+  setup-no-accepted : (q : Stream) (e : Event) (a : Bearer) (o : List ℕ) → ruled c (awaitSetup q) e ≡ accepted a o → ⊥
+  setup-no-accepted q (setUp n p t) a o h = omega (arith, ap which h)
+  setup-no-accepted q (change n p t) a o h = omega (arith, ap which h)
+  setup-no-accepted q release a o h = omega (arith, ap which h)
+  setup-no-accepted q t1 a o h = omega (arith, ap which h)
+  setup-no-accepted q t2 a o h = omega (arith, ap which h)
+  setup-no-accepted q (message m) a o h = apart _ _ 3 h (deaf-which (awaitSetup q) refl (heard m)) (lit≤ tt)
+
+  -- a release does not look at an open change
+  released-same : (s : Side) (b : Bearer) (q : Stream) (e : Event) → ruled c (awaitChange s b q) e ≡ released → ruled c (up s b) e ≡ released
+  released-same s b q (setUp n p t) h = h
+  released-same s b q (change n p t) h = absurd (omega (arith, ap which h))
+  released-same s b q release h = h
+  released-same s b q t1 h = h
+  released-same s b q t2 h = absurd (omega (arith, ap which h))
+  released-same s b q (message m) h = absurd (apart _ _ 2 h (hearing-which (awaitChange s b q) (heard m)) (lit≤ tt))
+
+  -- a Request that is accepted during a change of ours is accepted in up too
+  hearing-same : (s : Side) (b : Bearer) (q : Stream) (m : Heard) (a : Bearer) (o : List ℕ)
+      → hearing c (awaitChange s b q) m ≡ accepted a o → hearing c (up s b) m ≡ accepted a o
+  hearing-same I b q m a o h = absurd (apart _ _ 3 h (deaf-which (awaitChange I b q) refl m) (lit≤ tt))
+  hearing-same R b q hears.unreadable a o h = h
+  hearing-same R b q hears.otherRequest a o h = h
+  hearing-same R b q (hears.request d) a o h = h
+  hearing-same R b q (hears.accepted d) a o h = absurd (apart _ _ 3 h (taking-which (some b) q d) (lit≤ tt))
+  hearing-same R b q hears.declined a o h = absurd (omega (arith, ap which h))
+
+  accepted-same : (s : Side) (b : Bearer) (q : Stream) (e : Event) (a : Bearer) (o : List ℕ)
+      → ruled c (awaitChange s b q) e ≡ accepted a o → ruled c (up s b) e ≡ accepted a o
+  accepted-same s b q (setUp n p t) a o h = h
+  accepted-same s b q (change n p t) a o h = absurd (omega (arith, ap which h))
+  accepted-same s b q release a o h = h
+  accepted-same s b q t1 a o h = h
+  accepted-same s b q t2 a o h = absurd (omega (arith, ap which h))
+  accepted-same s b q (message m) a o h = hearing-same s b q (heard m) a o h
+
+  -- ---- an exchange settles the bearer that its message names
+  -- v settles nothing but x
+  abbrev Names : Option Bearer → Verdict → Type 0
+  Names x v = (b : Bearer) → settles v ≡ some b → x ≡ some b
+
+  silent : (x : Option Bearer) → Names x discarded
+  silent x b h = absurd (Option·none-ne-some b h)
+
+  judging-names : (f d : Option Bearer) → Names (exchangeBy c (hears.request d)) (judging c f d)
+  judging-names f none =
+      saying (Names none) (octetsOf (c .own) writing.rejected) (λ o. rejected o) (silent none) (λ o. silent none)
+  judging-names f (some d) =
+      either (Names (some (granted c d))) (rightRequest c f d) _ _
+      (saying (Names (some (granted c d))) (octetsOf (c .own) (writing.accepted (answerTo c d))) (λ o. accepted (granted c d) o) (silent (some (granted c d))) (λ o b h. h))
+      (saying (Names (some (granted c d))) (octetsOf (c .own) writing.rejected) (λ o. rejected o) (silent (some (granted c d))) (λ o. silent (some (granted c d))))
+
+  taking-names : (f : Option Bearer) (q : Stream) (d : Option Bearer) → Names d (taking c f q d)
+  taking-names f q none = silent none
+  taking-names f q (some d) = either (Names (some d)) (rightAccepted c f q d) _ _ (λ b h. h) (silent (some d))
+
+  hearing-names : (k : Book) (h : Heard) → Names (exchangeBy c h) (hearing c k h)
+  hearing-names k hears.unreadable = silent none
+  hearing-names k hears.otherRequest =
+      either (Names none) (ignores k) _ _ (silent none) (saying (Names none) (octetsOf (c .own) writing.confused) (λ o. confused o) (silent none) (λ o. silent none))
+  hearing-names k (hears.request d) =
+      either (Names (exchangeBy c (hears.request d))) (ignores k) _ _ (silent (exchangeBy c (hears.request d))) (judging-names (settled k) d)
+  hearing-names idle (hears.accepted d) = silent d
+  hearing-names (awaitSetup q) (hears.accepted d) = taking-names none q d
+  hearing-names (up s b) (hears.accepted d) = silent d
+  hearing-names (awaitChange s b q) (hears.accepted d) = taking-names (some b) q d
+  hearing-names idle hears.declined = silent none
+  hearing-names (awaitSetup q) hears.declined = silent none
+  hearing-names (up s b) hears.declined = silent none
+  hearing-names (awaitChange s b q) hears.declined = silent none
+
+  commanding-names : (q : Option Stream) → Names none (commanding c q)
+  commanding-names none = silent none
+  commanding-names (some q) =
+      saying (Names none) (octetsOf (c .own) (writing.request q)) (λ o. opened q o) (silent none) (λ o. silent none)
+
+  ruled-names : (k : Book) (e : Event) → Names (exchangedIn c e) (ruled c k e)
+  ruled-names idle (setUp n p t) = commanding-names (commanded c n p t)
+  ruled-names (awaitSetup q) (setUp n p t) = silent none
+  ruled-names (up s b) (setUp n p t) = silent none
+  ruled-names (awaitChange s b q) (setUp n p t) = silent none
+  ruled-names idle (change n p t) = silent none
+  ruled-names (awaitSetup q) (change n p t) = silent none
+  ruled-names (up s b) (change n p t) = commanding-names (commanded c n p t)
+  ruled-names (awaitChange s b q) (change n p t) = silent none
+  ruled-names idle release = silent none
+  ruled-names (awaitSetup q) release = silent none
+  ruled-names (up s b) release = silent none
+  ruled-names (awaitChange s b q) release = silent none
+  ruled-names idle t1 = silent none
+  ruled-names (awaitSetup q) t1 = silent none
+  ruled-names (up s b) t1 = silent none
+  ruled-names (awaitChange s b q) t1 = silent none
+  ruled-names idle t2 = silent none
+  ruled-names (awaitSetup q) t2 = silent none
+  ruled-names (up s b) t2 = silent none
+  ruled-names (awaitChange s b q) t2 = silent none
+  ruled-names k (message m) = hearing-names k (heard m)
+
+  -- ---- number 4 comes first, whatever the book
+  kept-room : (t : Bool) (v w x : Verdict) → (v ≡ x → w ≡ x) → cond t (refused 4) v ≡ x → cond t (refused 4) w ≡ x
+  kept-room true v w x f h = h
+  kept-room false v w x f h = f h
+
+  no-room : (t : Bool) (v x : Verdict) → (refused 4 ≡ x → ⊥) → (v ≡ x → ⊥) → cond t (refused 4) v ≡ x → ⊥
+  no-room true v x f g h = f h
+  no-room false v x f g h = g h
+
+  room-which : (n : ℕ) (t : Bool) (v : Verdict) → n ≤ 4 → n ≤ which v → n ≤ which (cond t (refused 4) v)
+  room-which n t v p q = either (λ w. n ≤ which w) t (refused 4) v p q
+
+  room-names : (k : Book) (g : Given) → Names (exchanged c g) (rule c k g)
+  unfolding rule
+  room-names k g = either (Names (exchanged c g)) (ltb (g .room) 512) _ _ (silent (exchanged c g)) (ruled-names k (g .event))
+
+  pub rule-laws : Laws (rule c) (exchanged c)
+  unfolding rule
+  rule-laws =
+      record {
+        opened-setup = λ p g q o h. apart _ _ 1 h (room-which 1 (ltb (g .room) 512) _ (lit≤ tt) (setup-which p (g .event))) (lit≤ tt);
+        opened-change = λ s b p g q o h. apart _ _ 1 h (room-which 1 (ltb (g .room) 512) _ (lit≤ tt) (change-which s b p (g .event))) (lit≤ tt);
+        released-change = λ s b p g h. kept-room (ltb (g .room) 512) _ _ _ (released-same s b p (g .event)) h;
+        accepted-setup = λ p g a o h. no-room (ltb (g .room) 512) _ _ (λ x. omega (arith, ap which x)) (setup-no-accepted p (g .event) a o) h;
+        accepted-change = λ s b p g a o h. kept-room (ltb (g .room) 512) _ _ _ (accepted-same s b p (g .event) a o) h;
+        agreed-names = λ k g b h. room-names k g b (ap settles h);
+        accepted-names = λ k g b o h. room-names k g b (ap settles h);
+      }

@@ -1,0 +1,61 @@
+-- What a reader can quote of one event, beside demand 3: `proofs/Promises.antt` shows each of it for every run of the code.
+use Prim.Native.Nat.{ℕ}
+use mathlib.Core.Path.{_≡_}
+use mathlib.Core.Bool.{Bool, true, false}
+use mathlib.Core.List.{List}
+use mathlib.Core.Option.{Option, none, some}
+use lib.ListN.{length}
+use Rattle.book.specs.declared.State.{State}
+use Rattle.book.specs.declared.State.the-variants.{Up}
+use Rattle.book.specs.declared.Notice.{Notice}
+use Rattle.book.specs.declared.Notice
+use Rattle.book.specs.Book.{settled, closed, settling, stateOf, byBearer, drops}
+use Rattle.ipbcp.specs.Reading.{readMessage}
+use Rattle.ipbcp.specs.Writing as writing
+use Rattle.ipbcp.specs.Writing.{messageText}
+use Rattle.configuration.specs.Configuration.{Configuration}
+use Rattle.configuration.specs.Meaning.{configurationBy}
+use Rattle.media.specs.Stream.{Stream}
+use Rattle.bearer.specs.Bearer.{Bearer}
+use Rattle.bearer.specs.Hearing.{bearerIn}
+use Rattle.bearer.specs.Judging.{rightRequest, granted, answerTo, rightAccepted}
+use Rattle.endpoint.specs.declared.Endpoint.{Endpoint}
+use Rattle.endpoint.specs.declared.Answer.{Answer}
+use Rattle.endpoint.specs.declared.Reply.the-variants.{Done}
+use Rattle.endpoint.specs.Step.{bookOf, written}
+
+-- the message can be read to its end, and the bearer that it names is right
+abbrev pub rightIn : (Bearer → Bool) → Option Bearer → Bool
+rightIn right none = false
+rightIn right (some d) = right d
+
+-- ---- demand 2: an Accepted
+-- m is right for our Request q
+abbrev pub isRightAccepted : Endpoint → Stream → List ℕ → Bool
+isRightAccepted self q m = rightIn (rightAccepted (configurationBy (self .config)) (settled (bookOf self)) q) (bearerIn (readMessage m))
+
+-- m puts its bearer in force exactly when it is right: the one notice or the other, and nothing is written
+pub record Takes (self : Endpoint) (q : Stream) (m : List ℕ) (r : Answer) : Type 0 where
+  -- right: its bearer is in force
+  pub right : (d : Bearer) → bearerIn (readMessage m) ≡ some d → isRightAccepted self q m ≡ true
+      → (bookOf (r .endpoint) ≡ settling d (bookOf self)) × (r .reply ≡ Done Up (byBearer (bookOf self) Notice.Up Notice.Changed) 0 false)
+  -- wrong: the attempt is over, and the bearer in force, if there is one, stays
+  pub wrong : isRightAccepted self q m ≡ false
+      → (bookOf (r .endpoint) ≡ closed (bookOf self)) × (r .reply ≡ Done (stateOf (closed (bookOf self))) (byBearer (bookOf self) Notice.SetupFailed Notice.ChangeFailed) 0 false)
+
+-- ---- demand 2: a peer's Request
+abbrev pub isRightRequest : Endpoint → List ℕ → Bool
+isRightRequest self m = rightIn (rightRequest (configurationBy (self .config)) (settled (bookOf self))) (bearerIn (readMessage m))
+
+-- the octets of a message stand at the front of the buffer, and the reply has their number, this state and this notice
+pub record Answers (self : Endpoint) (content : writing.Content) (before after : List ℕ) (r : Answer) (s : State) (n : Notice) : Type 0 where
+  pub out : after ≡ written (messageText (self .config .own) content) before
+  pub reply : r .reply ≡ Done s n (length (messageText (self .config .own) content)) (drops (bookOf self))
+
+-- m is accepted exactly when it is right, and rejected else
+pub record Judges (self : Endpoint) (m before after : List ℕ) (r : Answer) : Type 0 where
+  pub right : (d : Bearer) → bearerIn (readMessage m) ≡ some d → isRightRequest self m ≡ true
+      → (bookOf (r .endpoint) ≡ settling (granted (configurationBy (self .config)) d) (bookOf self))
+      × Answers self (writing.accepted (answerTo (configurationBy (self .config)) d)) before after r Up (byBearer (bookOf self) Notice.Up Notice.Changed)
+  pub wrong : isRightRequest self m ≡ false
+      → (bookOf (r .endpoint) ≡ closed (bookOf self)) × Answers self writing.rejected before after r (stateOf (closed (bookOf self))) Notice.Rejected

@@ -1,0 +1,83 @@
+// Commands of the call control.
+ghost use mathlib.Core.Option.{some};
+ghost use Prim.Native.Nat.{_≤_};
+ghost use lib.ListN.{length};
+ghost use Rattle.bearer.specs.Judging.{commanded};
+ghost use Rattle.bearer.specs.Meaning.{requestBy};
+ghost use Rattle.configuration.specs.Meaning.{configurationBy};
+ghost use Rattle.endpoint.specs.Rule.{Event, commanding};
+ghost use Rattle.endpoint.specs.Step.{Gave, Did, Offerable};
+use crate::Answer;
+use crate::Endpoint;
+use crate::LEAST_ROOM;
+use bearer::Request;
+use book::State;
+use ipbcp::Body;
+use ipbcp_write::write_message;
+use judge::commands::request_for;
+use octets::Put;
+
+impl Endpoint {
+    // Writes the Request, and opens it.
+    fn offer(self, request: Request, out: &mut [u8]) -> Answer
+        requires { ⌜ Offerable request (now out) ⌝ }
+        ensures { λ r. ⌜ Gave self (commanding (configurationBy (self .config)) (some (requestBy request))) (now (out .entry)) (now (out .exit)) r ⌝ }
+    {
+        let config = self.config;
+        let own = config.own;
+        let stream = request.stream;
+        let text = request.text;
+        let put = write_message(Body::Request(stream), own, &text, out);
+        match put {
+            Put::Octets(n) => self.opened(request, n),
+            Put::Refused(n) => self.refused(n),
+        }
+    }
+
+    // A command in the state that it suits.
+    fn command(self, entry: u16, payload: u16, ptime: u16, out: &mut [u8]) -> Answer
+        requires { ⌜ 512 ≤ length (now out) ⌝ }
+        ensures { λ r. ⌜ Gave self (commanding (configurationBy (self .config)) (commanded (configurationBy (self .config)) entry payload ptime)) (now (out .entry)) (now (out .exit)) r ⌝ }
+    {
+        let config = self.config;
+        let made = request_for(config, entry, payload, ptime);
+        let suits = made.suits;
+        let request = made.request;
+        if suits {
+            return self.offer(request, out);
+        }
+        self.refused(5)
+    }
+
+    // The call control wants a bearer: it names a codec entry, a payload and a packet time.
+    pub fn set_up(self, entry: u16, payload: u16, ptime: u16, out: &mut [u8]) -> Answer
+        ensures { λ r. ⌜ Did self (Event.setUp entry payload ptime) (now (out .entry)) (now (out .exit)) r ⌝ }
+    {
+        if out.len() < LEAST_ROOM {
+            return self.refused(4);
+        }
+        let state = self.state;
+        match state {
+            State::Idle => self.command(entry, payload, ptime, out),
+            State::AwaitSetup => self.refused(11),
+            State::Up => self.refused(11),
+            State::AwaitChange => self.refused(11),
+        }
+    }
+
+    // The call control wants the bearer in force changed.
+    pub fn change(self, entry: u16, payload: u16, ptime: u16, out: &mut [u8]) -> Answer
+        ensures { λ r. ⌜ Did self (Event.change entry payload ptime) (now (out .entry)) (now (out .exit)) r ⌝ }
+    {
+        if out.len() < LEAST_ROOM {
+            return self.refused(4);
+        }
+        let state = self.state;
+        match state {
+            State::Idle => self.refused(11),
+            State::AwaitSetup => self.refused(11),
+            State::Up => self.command(entry, payload, ptime, out),
+            State::AwaitChange => self.refused(11),
+        }
+    }
+}

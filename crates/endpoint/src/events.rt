@@ -1,0 +1,57 @@
+// Releases and timers.
+ghost use Rattle.endpoint.specs.Rule.{Event};
+ghost use Rattle.endpoint.specs.Step.{Did};
+use crate::Answer;
+use crate::Endpoint;
+use crate::LEAST_ROOM;
+use book::State;
+
+impl Endpoint {
+    // The call control releases the bearer, or the attempt to have one.
+    pub fn release(self, out: &mut [u8]) -> Answer
+        ensures { λ r. ⌜ Did self Event.release (now (out .entry)) (now (out .exit)) r ⌝ }
+    {
+        if out.len() < LEAST_ROOM {
+            return self.refused(4);
+        }
+        let state = self.state;
+        match state {
+            State::Idle => self.refused(11),
+            State::AwaitSetup => self.released(),
+            State::Up => self.released(),
+            State::AwaitChange => self.released(),
+        }
+    }
+
+    // T1 has expired, which is awaited during a set-up alone.
+    pub fn expire_t1(self, out: &mut [u8]) -> Answer
+        ensures { λ r. ⌜ Did self Event.t1 (now (out .entry)) (now (out .exit)) r ⌝ }
+    {
+        if out.len() < LEAST_ROOM {
+            return self.refused(4);
+        }
+        let state = self.state;
+        match state {
+            State::Idle => self.discarded(),
+            State::AwaitSetup => self.failed(),
+            State::Up => self.discarded(),
+            State::AwaitChange => self.discarded(),
+        }
+    }
+
+    // T2 has expired, which is awaited during a change alone.
+    pub fn expire_t2(self, out: &mut [u8]) -> Answer
+        ensures { λ r. ⌜ Did self Event.t2 (now (out .entry)) (now (out .exit)) r ⌝ }
+    {
+        if out.len() < LEAST_ROOM {
+            return self.refused(4);
+        }
+        let state = self.state;
+        match state {
+            State::Idle => self.discarded(),
+            State::AwaitSetup => self.discarded(),
+            State::Up => self.discarded(),
+            State::AwaitChange => self.failed(),
+        }
+    }
+}

@@ -1,0 +1,130 @@
+// One bearer endpoint: a method for each event, and `handle` over them.
+mod commands;
+mod events;
+mod messages;
+mod verdicts;
+
+ghost use Rattle.endpoint.specs.Step.{Did};
+ghost use Rattle.endpoint.specs.Call.{eventOf, Opens};
+use address::Address;
+use bearer::Bearer;
+use bearer::Request;
+use book::Notice;
+use book::Side;
+use book::State;
+use configuration::Checked;
+use configuration::Config;
+use configuration::check::check;
+use media::Stream;
+use media::Texts;
+use octets::Span;
+
+// The shortest output buffer that an event can be given.
+pub const LEAST_ROOM: usize = 512;
+
+// An endpoint: its configuration, and its book. The side counts while a bearer is in force, the Request while one is awaited,
+// the bearer while one is in force.
+pub struct Endpoint {
+    pub config: Config,
+    pub state: State,
+    pub side: Side,
+    pub request: Request,
+    pub bearer: Bearer,
+}
+
+// What an event is answered: document 01's number, or the state after it, the notice, how many octets stand at the front of the
+// output buffer, and whether our own change was dropped.
+pub enum Reply {
+    Refused(u8),
+    Done {
+        state: State,
+        notice: Notice,
+        written: usize,
+        dropped: bool,
+    },
+}
+
+// The endpoint after an event, and the reply.
+pub struct Answer {
+    pub endpoint: Endpoint,
+    pub reply: Reply,
+}
+
+// An event by value; the octets of a message stand beside it.
+pub enum Call {
+    // A codec entry, counted from 1, a payload and a packet time.
+    SetUp(u16, u16, u16),
+    Change(u16, u16, u16),
+    Release,
+    T1,
+    T2,
+    Message,
+}
+
+// The answer to a configuration, and the fresh endpoint that has it. Of a configuration that is refused it is of no use.
+pub struct Opening {
+    pub checked: Checked,
+    pub endpoint: Endpoint,
+}
+
+// A stream that says nothing.
+fn blank_stream() -> Stream {
+    let none = Span { at: 0, len: 0 };
+    Stream {
+        media: none,
+        port: 0,
+        transport: none,
+        payload: 0,
+        rtpmap: none,
+        fmtp: Texts {
+            count: 0,
+            first: none,
+            second: none,
+            third: none,
+        },
+        ptime: 0,
+    }
+}
+
+impl Endpoint {
+    // A fresh endpoint of the configuration, or document 01's number for one that can't be used.
+    pub fn new(config: Config) -> Opening
+        ensures { λ r. ⌜ Opens config r ⌝ }
+    {
+        let stream = blank_stream();
+        let offered = [0u8; 44];
+        let text = [0u8; 512];
+        let checked = check(config);
+        Opening {
+            checked,
+            endpoint: Endpoint {
+                config,
+                state: State::Idle,
+                side: Side::I,
+                request: Request {
+                    stream,
+                    text: offered,
+                },
+                bearer: Bearer {
+                    address: Address::V4(0),
+                    stream,
+                    text,
+                },
+            },
+        }
+    }
+
+    // Every event in one way: m is the message of `Call::Message`, and counts for no other call.
+    pub fn handle(self, call: Call, m: &[u8], out: &mut [u8]) -> Answer
+        ensures { λ r. ⌜ Did self (eventOf call (now (m .entry))) (now (out .entry)) (now (out .exit)) r ⌝ }
+    {
+        match call {
+            Call::SetUp(entry, payload, ptime) => self.set_up(entry, payload, ptime, out),
+            Call::Change(entry, payload, ptime) => self.change(entry, payload, ptime, out),
+            Call::Release => self.release(out),
+            Call::T1 => self.expire_t1(out),
+            Call::T2 => self.expire_t2(out),
+            Call::Message => self.message(m, out),
+        }
+    }
+}

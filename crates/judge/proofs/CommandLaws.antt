@@ -1,0 +1,151 @@
+-- Laws of commands: the two fixed words and the name fill the front of a Request's text, so each of its places has its text; and
+-- what suits the configuration fits the Request's fields.
+-- Assumes nothing.
+use Prim.Native.Nat.{ℕ, _+_, _-_, _%_, _≤_}
+use mir.Syntax.{w8}
+use mir.Val.{Fits}
+use mathlib.Core.Path.{_≡_, refl, sym, _∙_}
+use mathlib.Core.List.{List, _++_, map}
+use mathlib.Core.Bool.{Bool, true, false, _&&_, cond, and-eq-true-iff}
+use mathlib.Core.Option.{none, some, Option·elim}
+use lib.ListN.{length, replicate, length-map, length-take, length-replicate}
+use lib.Seq.{take-at}
+use lib.Dec.{eqb, leb}
+use native.Mathlib.Omega.{arith}
+use borrow.Author.Tests.{le-leb, leb-true, eqb-true}
+use Rattle.octets.specs.Put.{put}
+use Rattle.octets.specs.Append.{nextOf, Appends}
+use Rattle.octets.specs.Spans.{textOf}
+use Rattle.octets.proofs.AppendLaws.{append-more, append-room, length-appends}
+use Rattle.octets.proofs.CaseLaws.{by-bool}
+use Rattle.media.specs.Meaning.{spansOf, textsBy, streamBy, allIn, streamInside}
+use Rattle.configuration.specs.declared.Format.{Format}
+use Rattle.configuration.specs.declared.Format.the-variants.{Payload, Named}
+use Rattle.configuration.specs.declared.Codec.{Codec as Place}
+use Rattle.configuration.specs.declared.Entry.{Entry}
+use Rattle.configuration.specs.declared.Config.{Config}
+use Rattle.configuration.specs.Configuration.{entryIn, suits, nameOf, noneOrInRange}
+use Rattle.configuration.specs.Meaning.{formatBy, codecBy, codecsBy, configurationBy, entryBy}
+use Rattle.bearer.specs.declared.Request.{Request}
+use Rattle.bearer.specs.Judging.{audio, rtpAvp, offered, commanded}
+use Rattle.bearer.specs.Meaning.{requestBy}
+use Rattle.judge.specs.Commands.{Commands, Offers}
+
+-- ---- the Request for an entry
+pub appends-low : (l f : List ℕ) (at : ℕ) (vs : List ℕ) (r : ℕ) → Appends l at vs r f → at ≤ r
+unfolding nextOf
+appends-low l f at vs r p = omega (arith, p .next)
+
+name-short : (f : Format) (name : List ℕ) → length (nameOf (formatBy f name)) ≤ length name
+unfolding formatBy nameOf
+name-short (Payload n) name = omega arith
+name-short (Named n) name = simp length-take (omega arith)
+
+-- the words, a name t of at most 32 octets, and what was there; a and r are where the name begins and ends
+module _ (z g f t : List ℕ) (a r : ℕ) (room : length z ≡ 44) (short : length t ≤ 32) (p : Appends z 0 (audio ++ rtpAvp) a g) (q : Appends g a t r f) where
+  name-length : r - a ≡ length t
+  name-length =
+      let (e, _) = append-room z g 0 (audio ++ rtpAvp) a p (omega arith) in
+      let (h, _) = append-room g f a t r q (omega (arith, length-appends z g 0 (audio ++ rtpAvp) a p)) in
+      omega arith
+
+  text-whole : (w : List ℕ) × (f ≡ audio ++ (rtpAvp ++ (t ++ w)))
+  unfolding put
+  text-whole = (_, append-room z f 0 (audio ++ rtpAvp ++ t) r (append-more z g f (audio ++ rtpAvp) t 0 a r p q) (omega arith) .1)
+
+  length-whole : length f ≡ 44
+  length-whole = length-appends g f a t r q ∙ length-appends z g 0 (audio ++ rtpAvp) a p ∙ room
+
+-- a name's array has 32 octets; h says how one is kept, and any h will do
+module _ (k : Place) {X : Type 0} (h : ℕ → X) (array : length (map h (k .name)) ≡ 32) where
+  short-name : length (nameOf (codecBy k)) ≤ 32
+  short-name = omega (arith, name-short (k .format) (k .name), length-map (k .name) h)
+
+  pub offer-is : (port payload ptime a r : ℕ) (g f : List ℕ) → Appends (replicate 44 0) 0 (audio ++ rtpAvp) a g → Appends g a (nameOf (codecBy k)) r f
+      → Offers port (codecBy k) payload ptime (record {
+        stream = record {
+          media = record { at = 0; len = 5 };
+          port = port;
+          transport = record { at = 5; len = 7 };
+          payload = payload;
+          rtpmap = record { at = 12; len = r - a };
+          fmtp = record { count = 0; first = record { at = 0; len = 0 }; second = record { at = 0; len = 0 }; third = record { at = 0; len = 0 } };
+          ptime = ptime;
+        };
+        text = f;
+      })
+  unfolding requestBy streamBy streamInside textsBy spansOf allIn textOf offered
+  offer-is port payload ptime a r g f p q =
+      let z : List ℕ = replicate 44 0 in
+      let t : List ℕ = nameOf (codecBy k) in
+      let room : length z ≡ 44 = length-replicate {A = ℕ} 44 0 in
+      let n = name-length z g f t a r room short-name p q in
+      let (w, e) = text-whole z g f t a r room short-name p q in
+      let l = length-whole z g f t a r room short-name p q in
+      record {
+        is = λ c i. rw (e, n, i, take-at t w (length t) refl);
+        inside = rw (le-leb (0 + 5) (length f) (omega arith), le-leb (5 + 7) (length f) (omega arith), le-leb (12 + (r - a)) (length f) (omega (arith, short-name)));
+      }
+
+-- ---- a payload that suits the entry k
+module _ (k : Place) (p : ℕ) (s : suits (codecBy k) p ≡ true) where
+  pub payload-fixed : (n : ℕ) → k .format ≡ Payload n → n ≡ p
+  unfolding formatBy suits
+  payload-fixed n q = let e : eqb p n ≡ true = rw q at s in sym (eqb-true p n e)
+
+  pub payload-named : (n : ℕ) → k .format ≡ Named n → p % 256 ≡ p
+  unfolding formatBy suits
+  payload-named n q =
+      let e : (leb 96 p && leb p 127) ≡ true = rw q at s in
+      omega (arith, leb-true p 127 (and-eq-true-iff (leb 96 p) (leb p 127) .0 e .1))
+
+pub ruleset payloads = (payload-fixed, payload-named)
+
+-- ---- a packet time that is none or in range
+pub time-fits : (c : Config) (t : ℕ) → noneOrInRange (configurationBy c) t ≡ true → Fits w8 (c .most) → t % 256 ≡ t
+unfolding noneOrInRange configurationBy
+time-fits c t h most =
+    by-bool (eqb t 0) _
+    (λ e. omega (arith, eqb-true t 0 e))
+    (λ e. let r : (leb (c .least) t && leb t (c .most)) ≡ true = rw e at h in
+    omega (arith, leb-true t (c .most) (and-eq-true-iff (leb (c .least) t) (leb t (c .most)) .0 r .1)))
+
+-- ---- the command, whose entry is e; u says whether its fields suit the configuration
+module _ (c : Config) (n p t : ℕ) (e : Entry) (is : entryBy e ≡ entryIn (codecsBy c) n)
+    (u : Bool) (says : u ≡ (e .known && (suits (codecBy (e .codec)) p && noneOrInRange (configurationBy c) t))) where
+  entry-is : (v : Bool) → e .known ≡ v → entryIn (codecsBy c) n ≡ cond v (some (codecBy (e .codec))) none
+  entry-is v a = rw a at (sym is)
+
+  all-suit : u ≡ true → (e .known ≡ true) × (suits (codecBy (e .codec)) p ≡ true) × (noneOrInRange (configurationBy c) t ≡ true)
+  all-suit h =
+      let (a, b) = and-eq-true-iff (e .known) (suits (codecBy (e .codec)) p && noneOrInRange (configurationBy c) t) .0 (sym says ∙ h) in
+      let (d, f) = and-eq-true-iff (suits (codecBy (e .codec)) p) (noneOrInRange (configurationBy c) t) .0 b in
+      (a, d, f)
+
+  pub command-suits : u ≡ true → suits (codecBy (e .codec)) p ≡ true
+  command-suits h = all-suit h .1
+
+  pub command-in-range : u ≡ true → noneOrInRange (configurationBy c) t ≡ true
+  command-in-range h = all-suit h .2
+
+  pub command-yes : u ≡ true → (v w : ℕ) → v ≡ p → w ≡ t → (q : Request) → Offers (c .port) (codecBy (e .codec)) v w q
+      → Commands (configurationBy c) n p t (record { suits = true; request = q })
+  unfolding commanded configurationBy Option·elim
+  command-yes h v w payload time q o =
+      let (a, b, d) = all-suit h in
+      let r : requestBy q ≡ offered (configurationBy c) (codecBy (e .codec)) p t = rw (payload, time) at (o .is (configurationBy c) refl) in
+      record { is = rw (entry-is true a, b, d, r); inside = o .inside }
+
+  pub command-no : u ≡ false → (port : ℕ) (q : Request) → Offers port (codecBy (e .codec)) 0 0 q
+      → Commands (configurationBy c) n p t (record { suits = false; request = q })
+  unfolding commanded configurationBy Option·elim
+  command-no h port q o =
+      record {
+        is =
+            by-bool (e .known) _
+            (λ a. let f : (suits (codecBy (e .codec)) p && noneOrInRange (configurationBy c) t) ≡ false = rw a at (sym says ∙ h) in rw (entry-is true a, f))
+            (λ a. rw (entry-is false a));
+        inside = o .inside;
+      }
+
+pub ruleset commands = (command-yes, command-no)
