@@ -43,6 +43,18 @@ awaitsAt AwaitSetup = true
 awaitsAt Up = false
 awaitsAt AwaitChange = true
 
+abbrev pub awaitsT1 : State → Bool
+awaitsT1 Idle = false
+awaitsT1 AwaitSetup = true
+awaitsT1 Up = false
+awaitsT1 AwaitChange = false
+
+abbrev pub awaitsT2 : State → Bool
+awaitsT2 Idle = false
+awaitsT2 AwaitSetup = false
+awaitsT2 Up = false
+awaitsT2 AwaitChange = true
+
 abbrev pub dropsAt : State → Bool
 dropsAt Idle = false
 dropsAt AwaitSetup = false

@@ -3,7 +3,7 @@
 -- Assumes nothing.
 use Prim.Native.Nat.{ℕ, _≤_, _<_}
 use mathlib.Core.Path.{_≡_, refl, sym, _∙_, ap, subst}
-use mathlib.Core.Bool.{Bool, true, false, cond}
+use mathlib.Core.Bool.{Bool, true, false, cond, false≢true}
 use mathlib.Core.List.{List}
 use mathlib.Core.Option.{Option, none, some, Option·map}
 use lib.ListN.{length}
@@ -21,9 +21,14 @@ use Rattle.ipbcp.proofs.RoundTrip.{octets-are}
 use Rattle.media.specs.Stream.{Stream}
 use Rattle.media.specs.Meaning.{streamInside, streamIn}
 use Rattle.book.specs.declared.State.{State}
-use Rattle.book.specs.Book.{refused}
+use Rattle.book.specs.declared.State.the-variants.{Idle, AwaitSetup, Up, AwaitChange}
+use Rattle.book.specs.declared.Side.{Side}
+use Rattle.book.specs.Book.{refused, discarded, failed}
+use Rattle.book.specs.States.{awaitsT1, awaitsT2}
+use Rattle.configuration.specs.Configuration.{Configuration}
 use Rattle.configuration.specs.Meaning.{configurationBy}
 use Rattle.bearer.specs.declared.Request.{Request}
+use Rattle.bearer.specs.Bearer.{Bearer}
 use Rattle.bearer.specs.Judging.{commanded}
 use Rattle.bearer.specs.Meaning.{requestBy, bearerBy}
 use Rattle.judge.specs.declared.Command.{Command}
@@ -39,6 +44,32 @@ use Rattle.endpoint.specs.Step.{bookBy, bookOf, written, Gave, Silent, S
 pub offered-content : (q : Request) → streamInside (q .text) (q .stream) ≡ true → contentIn (q .text) (asked-for.Request (q .stream)) ≡ some (request (requestBy q))
 unfolding contentIn streamIn requestBy
 offered-content q h = rw h
+
+-- ---- the timers' rules, read on the state
+module _ (c : Configuration) where
+  t1-awaited : (st : State) (s : Side) (q : Stream) (b : Bearer) → awaitsT1 st ≡ true → ruled c (bookBy st s q b) Event.t1 ≡ failed
+  t1-awaited Idle s q b h = absurd (false≢true h)
+  t1-awaited AwaitSetup s q b h = refl
+  t1-awaited Up s q b h = absurd (false≢true h)
+  t1-awaited AwaitChange s q b h = absurd (false≢true h)
+
+  t1-stray : (st : State) (s : Side) (q : Stream) (b : Bearer) → awaitsT1 st ≡ false → ruled c (bookBy st s q b) Event.t1 ≡ discarded
+  t1-stray Idle s q b h = refl
+  t1-stray AwaitSetup s q b h = absurd (false≢true (sym h))
+  t1-stray Up s q b h = refl
+  t1-stray AwaitChange s q b h = refl
+
+  t2-awaited : (st : State) (s : Side) (q : Stream) (b : Bearer) → awaitsT2 st ≡ true → ruled c (bookBy st s q b) Event.t2 ≡ failed
+  t2-awaited Idle s q b h = absurd (false≢true h)
+  t2-awaited AwaitSetup s q b h = absurd (false≢true h)
+  t2-awaited Up s q b h = absurd (false≢true h)
+  t2-awaited AwaitChange s q b h = refl
+
+  t2-stray : (st : State) (s : Side) (q : Stream) (b : Bearer) → awaitsT2 st ≡ false → ruled c (bookBy st s q b) Event.t2 ≡ discarded
+  t2-stray Idle s q b h = refl
+  t2-stray AwaitSetup s q b h = refl
+  t2-stray Up s q b h = refl
+  t2-stray AwaitChange s q b h = absurd (false≢true (sym h))
 
 module _ (self : Endpoint) where
   -- an event whose buffer is too short
@@ -61,6 +92,23 @@ module _ (self : Endpoint) where
   pub did-silent : (e : Event) (xs : List ℕ) (r : Answer) (s : State) (v : Verdict) → 512 ≤ length xs → self .state ≡ s → Silent self v r
       → ruled (configurationBy (self .config)) (bookBy s (self .side) (requestBy (self .request)) (bearerBy (self .bearer))) e ≡ v → Did self e xs xs r
   did-silent e xs r s v h p g q = did e xs xs r s v h p (g xs) q
+
+  -- ---- timers: one that is awaited ends the attempt, and any other is discarded
+  expired : (e : Event) (v : Verdict) (xs : List ℕ) (r : Answer) → 512 ≤ length xs → ruled (configurationBy (self .config)) (bookOf self) e ≡ v → Silent self v r → Did self e xs xs r
+  expired e v xs r l p g = did-silent e xs r (self .state) v l refl g p
+
+  module _ (t : Bool) (xs : List ℕ) (r : Answer) (l : 512 ≤ length xs) where
+    pub expired-t1 : t ≡ awaitsT1 (self .state) → t ≡ true → Silent self failed r → Did self Event.t1 xs xs r
+    expired-t1 p q g = expired Event.t1 failed xs r l (t1-awaited (configurationBy (self .config)) (self .state) (self .side) (requestBy (self .request)) (bearerBy (self .bearer)) (sym p ∙ q)) g
+
+    pub stray-t1 : t ≡ awaitsT1 (self .state) → t ≡ false → Silent self discarded r → Did self Event.t1 xs xs r
+    stray-t1 p q g = expired Event.t1 discarded xs r l (t1-stray (configurationBy (self .config)) (self .state) (self .side) (requestBy (self .request)) (bearerBy (self .bearer)) (sym p ∙ q)) g
+
+    pub expired-t2 : t ≡ awaitsT2 (self .state) → t ≡ true → Silent self failed r → Did self Event.t2 xs xs r
+    expired-t2 p q g = expired Event.t2 failed xs r l (t2-awaited (configurationBy (self .config)) (self .state) (self .side) (requestBy (self .request)) (bearerBy (self .bearer)) (sym p ∙ q)) g
+
+    pub stray-t2 : t ≡ awaitsT2 (self .state) → t ≡ false → Silent self discarded r → Did self Event.t2 xs xs r
+    stray-t2 p q g = expired Event.t2 discarded xs r l (t2-stray (configurationBy (self .config)) (self .state) (self .side) (requestBy (self .request)) (bearerBy (self .bearer)) (sym p ∙ q)) g
 
   -- ---- a message that a writer was asked for
   -- it writes octets, or refuses by 5

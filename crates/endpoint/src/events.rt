@@ -5,6 +5,8 @@ use crate::Answer;
 use crate::Endpoint;
 use crate::LEAST_ROOM;
 use book::State;
+use book::awaits_t1;
+use book::awaits_t2;
 
 impl Endpoint {
     // The call control releases the bearer, or the attempt to have one.
@@ -23,7 +25,7 @@ impl Endpoint {
         }
     }
 
-    // T1 has expired, which is awaited during a set-up alone.
+    // T1 has expired.
     pub fn expire_t1(self, out: &mut [u8]) -> Answer
         ensures { λ r. ⌜ Did self Event.t1 (now (out .entry)) (now (out .exit)) r ⌝ }
     {
@@ -31,15 +33,13 @@ impl Endpoint {
             return self.refused(4);
         }
         let state = self.state;
-        match state {
-            State::Idle => self.discarded(),
-            State::AwaitSetup => self.failed(),
-            State::Up => self.discarded(),
-            State::AwaitChange => self.discarded(),
+        if awaits_t1(state) {
+            return self.failed();
         }
+        self.discarded()
     }
 
-    // T2 has expired, which is awaited during a change alone.
+    // T2 has expired.
     pub fn expire_t2(self, out: &mut [u8]) -> Answer
         ensures { λ r. ⌜ Did self Event.t2 (now (out .entry)) (now (out .exit)) r ⌝ }
     {
@@ -47,11 +47,9 @@ impl Endpoint {
             return self.refused(4);
         }
         let state = self.state;
-        match state {
-            State::Idle => self.discarded(),
-            State::AwaitSetup => self.discarded(),
-            State::Up => self.discarded(),
-            State::AwaitChange => self.failed(),
+        if awaits_t2(state) {
+            return self.failed();
         }
+        self.discarded()
     }
 }

@@ -34,14 +34,14 @@ impl Endpoint {
         }
     }
 
-    // The Request is opened. The bearer in force stays as it is.
+    // The Request is opened.
     fn opening(self, request: Request) -> Endpoint
         ensures { λ r. ⌜ Same self r (opening (requestBy request) (bookOf self)) ⌝ }
     {
         let config = self.config;
         let state = self.state;
         let side = self.side;
-        let bearer = self.bearer;
+        let bearer = self.bearer; // in force until an exchange succeeds
         Endpoint {
             config,
             state: opened_state(state),

@@ -1,7 +1,7 @@
--- `Endpoint::expire_t1` meets its contract: by the state, where the buffer is long enough.
+-- `Endpoint::expire_t1` meets its contract: it ends the attempt where it is awaited, if the buffer is long enough.
 -- Assumes nothing.
 use borrow.Author.Needs.{needs}
-use Rattle.endpoint.proofs.EventLaws.{did-short, did-silent}
+use Rattle.endpoint.proofs.EventLaws.{did-short, expired-t1, stray-t1}
 use Rattle.endpoint.proofs.Endpoint.expire_t1.Statement.{statement}
 use Rattle.endpoint.proofs.Endpoint.expire_t1.Tie as tie
 
@@ -9,43 +9,22 @@ refused-requires : tie.Need-refused-requires
 refused-requires c κs = search needs
 
 returns : tie.Need-returns
-returns c = search (did-short, did-silent, needs)
+returns c = search (did-short, expired-t1, stray-t1, needs)
 
-enum-told : tie.Need-enum-told
-enum-told c = search needs
-
-discarded-requires : tie.Need-discarded-requires
-discarded-requires c κs = search needs
-
-enum-told-2 : tie.Need-enum-told-2
-enum-told-2 c = search needs
+awaits-t1-requires : tie.Need-awaits-t1-requires
+awaits-t1-requires c κs = search needs
 
 failed-requires : tie.Need-failed-requires
 failed-requires c κs = search needs
 
-enum-told-3 : tie.Need-enum-told-3
-enum-told-3 c = search needs
-
-discarded-requires-2 : tie.Need-discarded-requires-2
-discarded-requires-2 c κs = search needs
-
-enum-told-4 : tie.Need-enum-told-4
-enum-told-4 c = search needs
-
-discarded-requires-3 : tie.Need-discarded-requires-3
-discarded-requires-3 c κs = search needs
-
 returns-2 : tie.Need-returns-2
-returns-2 c = search (did-short, did-silent, needs)
+returns-2 c = search (did-short, expired-t1, stray-t1, needs)
+
+discarded-requires : tie.Need-discarded-requires
+discarded-requires c κs = search needs
 
 returns-3 : tie.Need-returns-3
-returns-3 c = search (did-short, did-silent, needs)
-
-returns-4 : tie.Need-returns-4
-returns-4 c = search (did-short, did-silent, needs)
-
-returns-5 : tie.Need-returns-5
-returns-5 c = search (did-short, did-silent, needs)
+returns-3 c = search (did-short, expired-t1, stray-t1, needs)
 
 pub expire-t1-spec : {M : Type 1} → statement M
 expire-t1-spec =
@@ -53,15 +32,8 @@ expire-t1-spec =
     (tie.spec
     refused-requires
     returns
-    enum-told
-    discarded-requires
-    enum-told-2
+    awaits-t1-requires
     failed-requires
-    enum-told-3
-    discarded-requires-2
-    enum-told-4
-    discarded-requires-3
     returns-2
-    returns-3
-    returns-4
-    returns-5)
+    discarded-requires
+    returns-3)
