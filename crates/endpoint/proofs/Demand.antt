@@ -3,9 +3,12 @@
 -- Assumes nothing.
 use Prim.Native.Nat.{ℕ}
 use mathlib.Core.Path.{_≡_, refl, sym, _∙_, ap, ap₂, subst}
+use mathlib.Core.Bool.{false, cond}
 use mathlib.Core.List.{List, [], _∷_, _++_, foldl-append, Sublistᴰ}
 use lib.ListN.{length, drop}
 use lib.Seq.{take-at}
+use native.Mathlib.Omega.{arith}
+use Rattle.octets.proofs.CaseLaws.{by-bool}
 use Rattle.book.specs.declared.State.the-variants.{Idle}
 use Rattle.book.specs.Book.{idle, settled, answered, refusal, answer}
 use Rattle.book.specs.Book as told
@@ -14,11 +17,14 @@ use Rattle.book.specs.Strike.{logged, logOf, keptOf, eventsOf, lastSettled}
 use Rattle.book.proofs.Struck.{struck}
 use Rattle.media.specs.Stream.{Stream}
 use Rattle.configuration.specs.declared.Config.{Config}
-use Rattle.configuration.specs.Meaning.{configurationBy}
+use Rattle.configuration.specs.declared.Checked.the-variants.{Usable, Refused}
+use Rattle.configuration.specs.Meaning.{configurationBy, rightConfig, checked}
 use Rattle.bearer.specs.Bearer.{Bearer}
 use Rattle.bearer.specs.Meaning.{requestBy, bearerBy}
 use Rattle.endpoint.specs.declared.Endpoint.{Endpoint}
 use Rattle.endpoint.specs.declared.Answer.{Answer}
+use Rattle.endpoint.specs.declared.Opening.{Opening}
+use Rattle.endpoint.specs.Call.{Opens}
 use Rattle.endpoint.specs.Rule.{Event, Given, rule, exchanged}
 use Rattle.endpoint.specs.Step.{bookBy, bookOf, replyFor, outFor, Did}
 use Rattle.endpoint.specs.Claim.{Line, toldBy, seen, Runs, begun, after, Fresh, kept, Demand3}
@@ -72,3 +78,15 @@ demand3 c e h gs ls f run =
       same-bearer = λ e′ ls′ f′ h′ run′. ap (λ (l : Log). settled (l .book)) (follows c e′ h′ run′ .1) ∙ ap settled (s .same-book) ∙ ap (λ (l : Log). settled (l .book)) (sym p);
       in-force = ap (λ (l : Log). settled (l .book)) p ∙ s .in-force ∙ ap (λ (l : Log). lastSettled (exchanged (configurationBy c)) (l .lines)) (sym p);
     }
+
+-- what `Endpoint::new` hands back for a configuration that it does not refuse is a fresh endpoint of it
+pub opened-fresh : (c : Config) (o : Opening) → Opens c o → o .checked ≡ Usable → Fresh c (o .endpoint)
+unfolding checked
+opened-fresh c o h e = record { right = by-bool (rightConfig c) _ (λ t. t) (λ t. absurd (refused t)); config = h .config; idle = h .idle }
+  where
+    refused : rightConfig c ≡ false → ⊥
+    refused t =
+        let a : cond (rightConfig c) Usable (Refused 12) ≡ Usable = sym (h .checked) ∙ e in
+        let b : Refused 12 ≡ Usable = rw t at a in
+        let z : _≡_ {A = ℕ} 0 1 = cc in
+        omega arith

@@ -37,7 +37,7 @@ use Rattle.endpoint.specs.declared.Endpoint.{Endpoint}
 use Rattle.endpoint.specs.declared.Answer.{Answer}
 use Rattle.endpoint.specs.declared.Call.{Call}
 use Rattle.endpoint.specs.Call.{eventOf}
-use Rattle.endpoint.specs.Rule.{Verdict, Event, said, commanding, ruled, rule}
+use Rattle.endpoint.specs.Rule.{Verdict, Event, said, commanding, ruled, rule, leastRoom}
 use Rattle.endpoint.specs.Step.{bookBy, bookOf, written, Gave, Silent, Says, Did}
 
 -- a Request whose texts lie inside its array is what is written
@@ -73,13 +73,13 @@ module _ (c : Configuration) where
 
 module _ (self : Endpoint) where
   -- an event whose buffer is too short
-  pub did-short : (e : Event) (xs : List ℕ) (r : Answer) → length xs < 512 → Silent self (refused 4) r → Did self e xs xs r
+  pub did-short : (e : Event) (xs : List ℕ) (r : Answer) → length xs < leastRoom → Silent self (refused 4) r → Did self e xs xs r
   unfolding rule
   did-short e xs r h g =
       subst (λ (v : Verdict). Gave self v xs xs r) (ap (λ (t : Bool). cond t (refused 4) (ruled (configurationBy (self .config)) (bookOf self) e)) (sym (lt-ltb _ _ h))) (g xs)
 
   -- an event in a state that is known, whose buffer is long enough
-  pub did : (e : Event) (xs ys : List ℕ) (r : Answer) (s : State) (v : Verdict) → 512 ≤ length xs → self .state ≡ s → Gave self v xs ys r
+  pub did : (e : Event) (xs ys : List ℕ) (r : Answer) (s : State) (v : Verdict) → leastRoom ≤ length xs → self .state ≡ s → Gave self v xs ys r
       → ruled (configurationBy (self .config)) (bookBy s (self .side) (requestBy (self .request)) (bearerBy (self .bearer))) e ≡ v → Did self e xs ys r
   unfolding rule
   did e xs ys r s v h p g q =
@@ -89,15 +89,15 @@ module _ (self : Endpoint) where
       ∙ q)) g
 
   -- the same where nothing is written
-  pub did-silent : (e : Event) (xs : List ℕ) (r : Answer) (s : State) (v : Verdict) → 512 ≤ length xs → self .state ≡ s → Silent self v r
+  pub did-silent : (e : Event) (xs : List ℕ) (r : Answer) (s : State) (v : Verdict) → leastRoom ≤ length xs → self .state ≡ s → Silent self v r
       → ruled (configurationBy (self .config)) (bookBy s (self .side) (requestBy (self .request)) (bearerBy (self .bearer))) e ≡ v → Did self e xs xs r
   did-silent e xs r s v h p g q = did e xs xs r s v h p (g xs) q
 
   -- ---- timers: one that is awaited ends the attempt, and any other is discarded
-  expired : (e : Event) (v : Verdict) (xs : List ℕ) (r : Answer) → 512 ≤ length xs → ruled (configurationBy (self .config)) (bookOf self) e ≡ v → Silent self v r → Did self e xs xs r
+  expired : (e : Event) (v : Verdict) (xs : List ℕ) (r : Answer) → leastRoom ≤ length xs → ruled (configurationBy (self .config)) (bookOf self) e ≡ v → Silent self v r → Did self e xs xs r
   expired e v xs r l p g = did-silent e xs r (self .state) v l refl g p
 
-  module _ (t : Bool) (xs : List ℕ) (r : Answer) (l : 512 ≤ length xs) where
+  module _ (t : Bool) (xs : List ℕ) (r : Answer) (l : leastRoom ≤ length xs) where
     pub expired-t1 : t ≡ awaitsT1 (self .state) → t ≡ true → Silent self failed r → Did self Event.t1 xs xs r
     expired-t1 p q g = expired Event.t1 failed xs r l (t1-awaited (configurationBy (self .config)) (self .state) (self .side) (requestBy (self .request)) (bearerBy (self .bearer)) (sym p ∙ q)) g
 
@@ -138,7 +138,7 @@ module _ (self : Endpoint) where
     pub said-octets : (n : ℕ) (r : Answer) → p ≡ Octets n → Says self v n r → Gave self (said (octetsOf own c) v) xs ys r
     said-octets n r q g = wrote (octetsOf own c) v xs ys n r (subst (λ (x : Put). Puts (octetsOf own c) xs x ys) q asked) g
 
-    pub said-refused : (n : ℕ) (r : Answer) → 512 ≤ length xs → p ≡ Refused n → Silent self (refused n) r → Gave self (said (octetsOf own c) v) xs ys r
+    pub said-refused : (n : ℕ) (r : Answer) → leastRoom ≤ length xs → p ≡ Refused n → Silent self (refused n) r → Gave self (said (octetsOf own c) v) xs ys r
     said-refused n r room q g =
         unwritten (octetsOf own c) v xs ys n r (λ t h. let (_, _, few, _) = octets-are own c t h in omega arith)
         (subst (λ (x : Put). Puts (octetsOf own c) xs x ys) q asked) g

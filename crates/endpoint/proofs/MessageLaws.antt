@@ -36,7 +36,7 @@ use Rattle.bearer.specs.Meaning.{requestBy, bearerBy, namedBy, heardIn, heldAs,
 use Rattle.bearer.proofs.HeldLaws.{streamIn-by, restated-by, held-names, heard-short, accepted-short}
 use Rattle.endpoint.specs.declared.Endpoint.{Endpoint}
 use Rattle.endpoint.specs.declared.Answer.{Answer}
-use Rattle.endpoint.specs.Rule.{Verdict, Event, rejecting, accepting, judging, taking, answering, hearing}
+use Rattle.endpoint.specs.Rule.{Verdict, Event, rejecting, accepting, judging, taking, answering, hearing, leastRoom}
 use Rattle.endpoint.specs.Step.{bookBy, bookOf, Gave, Silent, Says, Did, Readable, Answerable}
 use Rattle.endpoint.proofs.VerdictLaws.{held-by, ignores-by}
 use Rattle.endpoint.proofs.EventLaws.{did, said-octets, said-refused}
@@ -152,7 +152,7 @@ module _ (self : Endpoint) where
   -- ---- what was heard of m
   module _ (m : List ℕ) (z : took.Heard) (h : heardIn m z ≡ some (heard m)) where
     -- a message that is heard as such gets the rules' verdict on that
-    did-heard : (xs ys : List ℕ) (r : Answer) (x : Heard) → 512 ≤ length xs → heard m ≡ x → Gave self (hearing (configurationBy (self .config)) (bookOf self) x) xs ys r
+    did-heard : (xs ys : List ℕ) (r : Answer) (x : Heard) → leastRoom ≤ length xs → heard m ≡ x → Gave self (hearing (configurationBy (self .config)) (bookOf self) x) xs ys r
         → Did self (Event.message m) xs ys r
     did-heard xs ys r x l e g =
         did self (Event.message m) xs ys r (self .state) (hearing (configurationBy (self .config)) (bookOf self) (heard m)) l refl
@@ -205,14 +205,14 @@ module _ (self : Endpoint) where
       heard-accepted : z ≡ is.Accepted a s → heard m ≡ hears.accepted (some (namedBy m a s))
       heard-accepted p = accepted-named p .1
 
-      pub request-readable : (xs : List ℕ) → 512 ≤ length xs → z ≡ is.Request a s → Answerable m s xs
+      pub request-readable : (xs : List ℕ) → leastRoom ≤ length xs → z ≡ is.Request a s → Answerable m s xs
       request-readable xs l p = record { room = l; readable = record { short = heard-short m (namedBy m a s) (heard-request p); inside = request-named p .0 } }
 
       pub accepted-readable : z ≡ is.Accepted a s → Readable m s
       accepted-readable p = record { short = accepted-short m (namedBy m a s) (heard-accepted p); inside = accepted-named p .0 }
 
     -- ---- the event, by the code's answer
-    module _ (xs ys : List ℕ) (r : Answer) (l : 512 ≤ length xs) where
+    module _ (xs ys : List ℕ) (r : Answer) (l : leastRoom ≤ length xs) where
       pub did-other : z ≡ is.OtherRequest → Gave self (hearing (configurationBy (self .config)) (bookOf self) hears.otherRequest) xs ys r → Did self (Event.message m) xs ys r
       did-other p g = did-heard xs ys r hears.otherRequest l (heard-other p) g
 
@@ -223,7 +223,7 @@ module _ (self : Endpoint) where
           → Gave self (hearing (configurationBy (self .config)) (bookOf self) (hears.request (some (namedBy m a s)))) xs ys r → Did self (Event.message m) xs ys r
       did-request a s p g = did-heard xs ys r (hears.request (some (namedBy m a s))) l (heard-request a s p) g
 
-    module _ (xs : List ℕ) (r : Answer) (l : 512 ≤ length xs) where
+    module _ (xs : List ℕ) (r : Answer) (l : leastRoom ≤ length xs) where
       pub did-unreadable : z ≡ is.Unreadable → Silent self discarded r → Did self (Event.message m) xs xs r
       did-unreadable p g = did-heard xs xs r hears.unreadable l (heard-unreadable p) (g xs)
 

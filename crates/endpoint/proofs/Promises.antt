@@ -25,7 +25,7 @@ use Rattle.ipbcp.specs.declared.Kind.the-variants as kind
 use Rattle.ipbcp.specs.declared.Head.{Head}
 use Rattle.ipbcp.specs.declared.Head.the-variants.{Typed, Untyped}
 use Rattle.ipbcp.specs.Types.{headIn}
-use Rattle.ipbcp.specs.Reading.{Reading, typed, described, readMessage}
+use Rattle.ipbcp.specs.Reading.{Reading, typed, described, readMessage, mostOctets}
 use Rattle.ipbcp.specs.Reading as reading
 use Rattle.ipbcp.specs.Writing as writing
 use Rattle.ipbcp.specs.Writing.{messageText, octetsOf}
@@ -40,7 +40,7 @@ use Rattle.endpoint.specs.declared.Endpoint.{Endpoint}
 use Rattle.endpoint.specs.declared.Answer.{Answer}
 use Rattle.endpoint.specs.declared.Reply.{Reply}
 use Rattle.endpoint.specs.declared.Reply.the-variants.{Refused, Done}
-use Rattle.endpoint.specs.Rule.{Book, Verdict, Event, Given, commanding, confusing, rejecting, judging, taking, answering, hearing, ruled, rule, exchanged}
+use Rattle.endpoint.specs.Rule.{Book, Verdict, Event, Given, commanding, confusing, rejecting, judging, taking, answering, hearing, ruled, rule, exchanged, leastRoom}
 use Rattle.endpoint.specs.Step.{bookOf, written, replyFor, outFor, Gave, Did}
 use Rattle.endpoint.specs.Claim.{toldBy}
 use Rattle.endpoint.specs.Promises.{rightIn, isRightAccepted, Takes, isRightRequest, Answers, Judges}
@@ -81,15 +81,15 @@ bearer-changes self e xs ys r did =
     told-by did = ap₂ toldBy (did .reply) (did .out) ∙ told-back (answered (bookOf self) (rule (configurationBy (self .config)) (bookOf self) (record { event = e; room = length xs }))) xs
 
 -- ---- from an event to the rules' verdict
-gave-ruled : (self : Endpoint) (e : Event) (xs ys : List ℕ) (r : Answer) (v : Verdict) → Did self e xs ys r → 512 ≤ length xs → ruled (configurationBy (self .config)) (bookOf self) e ≡ v → Gave self v xs ys r
+gave-ruled : (self : Endpoint) (e : Event) (xs ys : List ℕ) (r : Answer) (v : Verdict) → Did self e xs ys r → leastRoom ≤ length xs → ruled (configurationBy (self .config)) (bookOf self) e ≡ v → Gave self v xs ys r
 unfolding rule
 gave-ruled self e xs ys r v did l p =
-    subst (λ (w : Verdict). Gave self w xs ys r) (ap (λ (t : Bool). cond t (refused 4) (ruled (configurationBy (self .config)) (bookOf self) e)) (le-ltb (length xs) 512 l) ∙ p) did
+    subst (λ (w : Verdict). Gave self w xs ys r) (ap (λ (t : Bool). cond t (refused 4) (ruled (configurationBy (self .config)) (bookOf self) e)) (le-ltb (length xs) leastRoom l) ∙ p) did
 
 -- ---- demand 2: an Accepted puts its bearer in force exactly when it is right
-heard-accepted : (m : List ℕ) (version : ℕ) → length m ≤ 512 → headIn m ≡ Typed version kind.Accepted → heard m ≡ hears.accepted (bearerIn (readMessage m))
+heard-accepted : (m : List ℕ) (version : ℕ) → length m ≤ mostOctets → headIn m ≡ Typed version kind.Accepted → heard m ≡ hears.accepted (bearerIn (readMessage m))
 unfolding heard heardBy
-heard-accepted m version l h = rw (le-leb (length m) 512 l, h)
+heard-accepted m version l h = rw (le-leb (length m) mostOctets l, h)
 
 module _ (c : Configuration) (f : Option Bearer) (q : Stream) where
   taking-right : (o : Option Bearer) (d : Bearer) → o ≡ some d → rightIn (rightAccepted c f q) o ≡ true → taking c f q o ≡ agreed d
@@ -102,7 +102,7 @@ module _ (c : Configuration) (f : Option Bearer) (q : Stream) where
 
 -- m is an Accepted of any version, not too long, and comes while our Request q is open, with a buffer that is long enough
 pub accepted-exactly : (self : Endpoint) (q : Stream) (m xs ys : List ℕ) (version : ℕ) (r : Answer) → Did self (Event.message m) xs ys r
-    → 512 ≤ length xs → length m ≤ 512 → headIn m ≡ Typed version kind.Accepted → awaited (bookOf self) ≡ some q → Takes self q m r
+    → leastRoom ≤ length xs → length m ≤ mostOctets → headIn m ≡ Typed version kind.Accepted → awaited (bookOf self) ≡ some q → Takes self q m r
 accepted-exactly self q m xs ys version r did room short head awaits =
     record {
       right = λ d e h. let g = gave (agreed d) (taking-right c (settled (bookOf self)) q (bearerIn (readMessage m)) d e h) in (g .book, g .reply);
@@ -120,9 +120,9 @@ accepted-exactly self q m xs ys version r did room short head awaits =
         ∙ p)
 
 -- ---- demand 2: a peer's Request is accepted exactly when it is right
-heard-request : (m : List ℕ) → length m ≤ 512 → headIn m ≡ Typed 1 kind.Request → heard m ≡ hears.request (bearerIn (readMessage m))
+heard-request : (m : List ℕ) → length m ≤ mostOctets → headIn m ≡ Typed 1 kind.Request → heard m ≡ hears.request (bearerIn (readMessage m))
 unfolding heard heardBy
-heard-request m l h = rw (le-leb (length m) 512 l, h)
+heard-request m l h = rw (le-leb (length m) mostOctets l, h)
 
 described-named : (x : Reading) (d : Bearer) → bearerIn x ≡ some d → (k : kinds.Kind) × (x ≡ described k (d .address) (d .stream))
 unfolding bearerIn
@@ -156,7 +156,7 @@ module _ (c : Configuration) (right : rightConfiguration c ≡ true) where
 -- m is a Request of version 1, not too long, and comes where Requests are not discarded, with a buffer that is long enough, to an
 -- endpoint whose configuration is not refused
 pub request-exactly : (self : Endpoint) (m xs ys : List ℕ) (r : Answer) → rightConfig (self .config) ≡ true → Did self (Event.message m) xs ys r
-    → 512 ≤ length xs → length m ≤ 512 → headIn m ≡ Typed 1 kind.Request → ignores (bookOf self) ≡ false → Judges self m xs ys r
+    → leastRoom ≤ length xs → length m ≤ mostOctets → headIn m ≡ Typed 1 kind.Request → ignores (bookOf self) ≡ false → Judges self m xs ys r
 unfolding configurationBy
 request-exactly self m xs ys r config did room short head heeds =
     record {
@@ -205,7 +205,7 @@ unrefused self (rejected o) xs ys r n g a e = no-refusal (g .reply) e
 request-names : (m : List ℕ) (d : Option Bearer) → heard m ≡ hears.request d → d ≡ bearerIn (readMessage m)
 unfolding heard heardBy
 request-names m d e =
-    by-bool (leb (length m) 512) _
+    by-bool (leb (length m) mostOctets) _
     (λ l. go (headIn m) (rw l at e))
     (λ l. let w : hears.unreadable ≡ hears.request d = rw l at e in absurd (let z : _≡_ {A = ℕ} 0 1 = cc in omega arith))
   where
@@ -251,7 +251,7 @@ module _ (c : Configuration) (right : rightConfiguration c ≡ true) (m : List �
   hearing-answered k (hears.accepted d) e = answering-answered (awaited k) (λ q. taking c (settled k) q d) (λ q. taking-answered (settled k) q d)
   hearing-answered k hears.declined e = answering-answered (awaited k) (λ q. failed) (λ q. tt)
 
-pub message-answered : (self : Endpoint) (m xs ys : List ℕ) (r : Answer) (n : ℕ) → rightConfig (self .config) ≡ true → Did self (Event.message m) xs ys r → 512 ≤ length xs → r .reply ≡ Refused n → ⊥
+pub message-answered : (self : Endpoint) (m xs ys : List ℕ) (r : Answer) (n : ℕ) → rightConfig (self .config) ≡ true → Did self (Event.message m) xs ys r → leastRoom ≤ length xs → r .reply ≡ Refused n → ⊥
 message-answered self m xs ys r n config did room e =
     unrefused self _ xs ys r n (gave-ruled self (Event.message m) xs ys r _ did room refl)
     (hearing-answered (configurationBy (self .config)) (usable self config) m (bookOf self) (heard m) refl) e

@@ -21,7 +21,7 @@ use Rattle.bearer.specs.Bearer.{Bearer}
 use Rattle.bearer.specs.Hearing as hears
 use Rattle.bearer.specs.Hearing.{Heard, heard}
 use Rattle.bearer.specs.Judging.{commanded, rightRequest, granted, answerTo, rightAccepted}
-use Rattle.endpoint.specs.Rule.{Book, Verdict, Event, setUp, change, release, t1, t2, message, Given, said, commanding, confusing, rejecting, judging, taking, hearing, ruled, rule, exchangeBy, exchangedIn, exchanged}
+use Rattle.endpoint.specs.Rule.{Book, Verdict, Event, setUp, change, release, t1, t2, message, Given, said, commanding, confusing, rejecting, judging, taking, hearing, ruled, rule, exchangeBy, exchangedIn, exchanged, leastRoom}
 
 -- which verdict it is: 0 opened, 1 released, 2 accepted, 3 agreed, 4 another
 abbrev which : Verdict → ℕ
@@ -239,17 +239,17 @@ module _ (c : Configuration) where
 
   room-names : (k : Book) (g : Given) → Names (exchanged c g) (rule c k g)
   unfolding rule
-  room-names k g = either (Names (exchanged c g)) (ltb (g .room) 512) _ _ (silent (exchanged c g)) (ruled-names k (g .event))
+  room-names k g = either (Names (exchanged c g)) (ltb (g .room) leastRoom) _ _ (silent (exchanged c g)) (ruled-names k (g .event))
 
   pub rule-laws : Laws (rule c) (exchanged c)
   unfolding rule
   rule-laws =
       record {
-        opened-setup = λ p g q o h. apart _ _ 1 h (room-which 1 (ltb (g .room) 512) _ (lit≤ tt) (setup-which p (g .event))) (lit≤ tt);
-        opened-change = λ s b p g q o h. apart _ _ 1 h (room-which 1 (ltb (g .room) 512) _ (lit≤ tt) (change-which s b p (g .event))) (lit≤ tt);
-        released-change = λ s b p g h. kept-room (ltb (g .room) 512) _ _ _ (released-same s b p (g .event)) h;
-        accepted-setup = λ p g a o h. no-room (ltb (g .room) 512) _ _ (λ x. omega (arith, ap which x)) (setup-no-accepted p (g .event) a o) h;
-        accepted-change = λ s b p g a o h. kept-room (ltb (g .room) 512) _ _ _ (accepted-same s b p (g .event) a o) h;
+        opened-setup = λ p g q o h. apart _ _ 1 h (room-which 1 (ltb (g .room) leastRoom) _ (lit≤ tt) (setup-which p (g .event))) (lit≤ tt);
+        opened-change = λ s b p g q o h. apart _ _ 1 h (room-which 1 (ltb (g .room) leastRoom) _ (lit≤ tt) (change-which s b p (g .event))) (lit≤ tt);
+        released-change = λ s b p g h. kept-room (ltb (g .room) leastRoom) _ _ _ (released-same s b p (g .event)) h;
+        accepted-setup = λ p g a o h. no-room (ltb (g .room) leastRoom) _ _ (λ x. omega (arith, ap which x)) (setup-no-accepted p (g .event) a o) h;
+        accepted-change = λ s b p g a o h. kept-room (ltb (g .room) leastRoom) _ _ _ (accepted-same s b p (g .event) a o) h;
         agreed-names = λ k g b h. room-names k g b (ap settles h);
         accepted-names = λ k g b o h. room-names k g b (ap settles h);
       }

@@ -13,6 +13,7 @@ use Rattle.book.specs.Book as told
 use Rattle.media.specs.declared.Stream.{Stream as Places}
 use Rattle.media.specs.Stream.{Stream}
 use Rattle.media.specs.Meaning.{streamBy, streamInside, streamIn}
+use Rattle.ipbcp.specs.Reading.{mostOctets}
 use Rattle.configuration.specs.Meaning.{configurationBy}
 use Rattle.bearer.specs.declared.Request.{Request}
 use Rattle.bearer.specs.Bearer.{Bearer}
@@ -21,7 +22,7 @@ use Rattle.endpoint.specs.declared.Endpoint.{Endpoint}
 use Rattle.endpoint.specs.declared.Answer.{Answer}
 use Rattle.endpoint.specs.declared.Reply.{Reply}
 use Rattle.endpoint.specs.declared.Reply.the-variants.{Refused, Done}
-use Rattle.endpoint.specs.Rule.{Book, Verdict, Event, rule}
+use Rattle.endpoint.specs.Rule.{Book, Verdict, Event, rule, leastRoom}
 
 -- the book that a state, a side, a Request and a bearer stand for
 abbrev pub bookBy : State → Side → Stream → Bearer → Book
@@ -88,15 +89,15 @@ Did self e before after r =
 
 -- For the private functions: the message m is one that is read, and the texts of the stream s lie inside it.
 pub record Readable (m : List ℕ) (s : Places) : Type 0 where
-  pub short : length m ≤ 512
+  pub short : length m ≤ mostOctets
   pub inside : streamIn m s ≡ some (streamBy m s)
 
 -- the same, and the output buffer is long enough
 pub record Answerable (m : List ℕ) (s : Places) (out : List ℕ) : Type 0 where
-  pub room : 512 ≤ length out
+  pub room : leastRoom ≤ length out
   pub readable : Readable m s
 
 -- the output buffer is long enough, and the texts of the Request lie inside its array
 pub record Offerable (q : Request) (out : List ℕ) : Type 0 where
-  pub room : 512 ≤ length out
+  pub room : leastRoom ≤ length out
   pub inside : streamInside (q .text) (q .stream) ≡ true

@@ -5,7 +5,7 @@ ghost use lib.ListN.{length};
 ghost use Rattle.bearer.specs.Judging.{commanded};
 ghost use Rattle.bearer.specs.Meaning.{requestBy};
 ghost use Rattle.configuration.specs.Meaning.{configurationBy};
-ghost use Rattle.endpoint.specs.Rule.{Event, commanding};
+ghost use Rattle.endpoint.specs.Rule.{Event, commanding, leastRoom};
 ghost use Rattle.endpoint.specs.Step.{Gave, Did, Offerable};
 use crate::Answer;
 use crate::Endpoint;
@@ -36,7 +36,7 @@ impl Endpoint {
 
     // A command in the state that it suits.
     fn command(self, entry: u16, payload: u16, ptime: u16, out: &mut [u8]) -> Answer
-        requires { ⌜ 512 ≤ length (now out) ⌝ }
+        requires { ⌜ leastRoom ≤ length (now out) ⌝ }
         ensures { λ r. ⌜ Gave self (commanding (configurationBy (self .config)) (commanded (configurationBy (self .config)) entry payload ptime)) (now (out .entry)) (now (out .exit)) r ⌝ }
     {
         let config = self.config;

@@ -8,6 +8,7 @@ ghost use Rattle.endpoint.specs.Step.{Did};
 ghost use Rattle.endpoint.specs.Call.{eventOf, Opens};
 use address::Address;
 use bearer::Bearer;
+use bearer::MOST_OFFERED;
 use bearer::Request;
 use book::Notice;
 use book::Side;
@@ -15,6 +16,7 @@ use book::State;
 use configuration::Checked;
 use configuration::Config;
 use configuration::check::check;
+use ipbcp::MOST_OCTETS;
 use media::Stream;
 use media::Texts;
 use octets::Span;
@@ -92,8 +94,8 @@ impl Endpoint {
         ensures { λ r. ⌜ Opens config r ⌝ }
     {
         let stream = blank_stream();
-        let offered = [0u8; 44];
-        let text = [0u8; 512];
+        let offered = [0u8; MOST_OFFERED];
+        let text = [0u8; MOST_OCTETS];
         let checked = check(config);
         Opening {
             checked,

@@ -6,7 +6,7 @@ ghost use Rattle.book.specs.Book.{awaited, Verdict};
 ghost use Rattle.bearer.specs.Hearing as hears;
 ghost use Rattle.bearer.specs.Meaning.{namedBy};
 ghost use Rattle.configuration.specs.Meaning.{configurationBy};
-ghost use Rattle.endpoint.specs.Rule.{Event, answering, confusing, rejecting, accepting, hearing};
+ghost use Rattle.endpoint.specs.Rule.{Event, answering, confusing, rejecting, accepting, hearing, leastRoom};
 ghost use Rattle.endpoint.specs.Step.{bookOf, Gave, Silent, Did, Readable, Answerable};
 use crate::Answer;
 use crate::Endpoint;
@@ -30,7 +30,7 @@ use octets::Put;
 impl Endpoint {
     // Answers with a Confused.
     fn confuse(self, out: &mut [u8]) -> Answer
-        requires { ⌜ 512 ≤ length (now out) ⌝ }
+        requires { ⌜ leastRoom ≤ length (now out) ⌝ }
         ensures { λ r. ⌜ Gave self (confusing (configurationBy (self .config))) (now (out .entry)) (now (out .exit)) r ⌝ }
     {
         let config = self.config;
@@ -44,7 +44,7 @@ impl Endpoint {
 
     // Answers with a Rejected.
     fn reject(self, out: &mut [u8]) -> Answer
-        requires { ⌜ 512 ≤ length (now out) ⌝ }
+        requires { ⌜ leastRoom ≤ length (now out) ⌝ }
         ensures { λ r. ⌜ Gave self (rejecting (configurationBy (self .config))) (now (out .entry)) (now (out .exit)) r ⌝ }
     {
         let config = self.config;
@@ -75,7 +75,7 @@ impl Endpoint {
 
     // A Request of another version.
     fn hear_other(self, out: &mut [u8]) -> Answer
-        requires { ⌜ 512 ≤ length (now out) ⌝ }
+        requires { ⌜ leastRoom ≤ length (now out) ⌝ }
         ensures { λ r. ⌜ Gave self (hearing (configurationBy (self .config)) (bookOf self) hears.otherRequest) (now (out .entry)) (now (out .exit)) r ⌝ }
     {
         let state = self.state;
@@ -88,7 +88,7 @@ impl Endpoint {
 
     // A Request that can't be read to its end.
     fn hear_bad(self, out: &mut [u8]) -> Answer
-        requires { ⌜ 512 ≤ length (now out) ⌝ }
+        requires { ⌜ leastRoom ≤ length (now out) ⌝ }
         ensures { λ r. ⌜ Gave self (hearing (configurationBy (self .config)) (bookOf self) (hears.request none)) (now (out .entry)) (now (out .exit)) r ⌝ }
     {
         let state = self.state;
