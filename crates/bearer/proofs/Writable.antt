@@ -1,13 +1,13 @@
 -- What an endpoint with a right configuration has to write can be written: the own address is that of one host, every field is in
 -- range, and no message for audio over RTP/AVP is too long. So its messages are refused by no number.
 -- Assumes nothing.
-use Prim.Native.Nat.{ℕ, zero, suc, _+_, _≤_, _<_, _^_}
+use Prim.Native.Nat.{ℕ, zero, suc, _+_, _≤_, _^_}
 use mathlib.Core.Path.{_≡_, refl, sym, _∙_, ap, subst}
 use mathlib.Core.List.{List, [], _∷_, _++_}
-use mathlib.Core.Bool.{Bool, true, false, _&&_, _||_, cond, and-eq-true-iff, false≢true}
+use mathlib.Core.Bool.{Bool, true, false, _&&_, cond, and-eq-true-iff}
 use mathlib.Core.Option.{Option, none, some, Option·elim, Option·none-ne-some}
 use lib.ListN.{length, length-append}
-use lib.Dec.{eqb, leb, ltb}
+use lib.Dec.{eqb, leb}
 use native.Mathlib.Omega.{arith}
 use borrow.Author.Tests.{le-leb, lt-ltb, le-ltb, leb-true, eqb-true, eq-eqb, ne-eqb}
 use Rattle.octets.specs.Append.{numberText}
@@ -16,10 +16,10 @@ use Rattle.octets.specs.Words.{begins, same}
 use Rattle.octets.proofs.CaseLaws.{by-eq, by-lt}
 use Rattle.sdp.specs.Lines.{isPlain, allPlain}
 use Rattle.address.specs.Kinds.{isUnicast}
-use Rattle.media.specs.Stream.{Stream, rtpmapWord, attributeText, rtpmapText, rtpmapLines, fmtpLines, octetsTogether, attributesFit}
+use Rattle.media.specs.Stream.{Stream, attributeText, rtpmapText, rtpmapLines, fmtpLines, octetsTogether, attributesFit}
 use Rattle.ipbcp.specs.declared.Kind.{Kind}
 use Rattle.ipbcp.specs.Reading.{described, readMessage}
-use Rattle.ipbcp.specs.Writing.{Content, request, accepted, confused, rejected, messageText, isToken, allTextsPlain, rightMedia, rightAttributes, rightContent, octetsOf}
+use Rattle.ipbcp.specs.Writing.{request, accepted, confused, rejected, messageText, isToken, allTextsPlain, rightMedia, rightAttributes, rightContent, octetsOf}
 use Rattle.ipbcp.proofs.WrittenLaws.{media-parts, attribute-parts}
 use Rattle.ipbcp.proofs.Lengths.{number-few, voice}
 use Rattle.ipbcp.proofs.ReadRange.{read-right, content-octets}

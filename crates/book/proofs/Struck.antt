@@ -1,14 +1,11 @@
 -- The claim `Struck` holds of every list of events, for any rule that meets `Laws`. Assumes nothing.
-use Prim.Native.Nat.{ℕ}
 use mathlib.Core.Path.{_≡_, refl, sym, _∙_, ap}
-use mathlib.Core.Bool.{Bool, true, false}
 use mathlib.Core.List.{List, [], _∷_, _++_, map, map-append, foldl, foldl-append, Sublistᴰ, Sublistᴰ·slnil, Sublistᴰ·cons, Sublistᴰ·cons-cons}
-use mathlib.Core.Option.{Option, none, some}
-use Rattle.book.specs.declared.Side.{Side}
+use mathlib.Core.Option.{Option, none}
 use Rattle.book.specs.Book.{Book, idle, awaitSetup, up, awaitChange, Verdict, refused, discarded, opened, agreed, failed, released, confused, accepted, rejected}
-use Rattle.book.specs.Book.{Answer, settled, closed, moved, answered}
+use Rattle.book.specs.Book.{settled, closed, moved, answered}
 use Rattle.book.specs.Strike.{Line, Log, Sheet, undropped, eventsOf, unattempted, keptAfter, beforeAfter, heldBy, lastSettled}
-use Rattle.book.specs.Strike.{lineOf, logged, logOf, marked, sheetOf, keptOf, Laws, Struck}
+use Rattle.book.specs.Strike.{lineOf, logged, logOf, marked, sheetOf, Laws, Struck}
 
 module _ {A : Type 0} where
   part-more : {xs ys : List A} (l : A) → Sublistᴰ xs ys → Sublistᴰ xs (ys ++ (l ∷ []))

@@ -2,14 +2,14 @@
 -- is claimed of the two (demand 3), for any rule that gives a verdict on book and event.
 use Prim.Native.Nat.{ℕ}
 use mathlib.Core.Path.{_≡_}
-use mathlib.Core.Bool.{Bool, true, false}
+use mathlib.Core.Bool.{false}
 use mathlib.Core.List.{List, [], _∷_, _++_, map, foldl, Sublistᴰ}
 use mathlib.Core.Option.{Option, none, some}
 use Rattle.book.specs.declared.Side.{Side}
 use Rattle.book.specs.declared.Notice.{Notice}
 use Rattle.book.specs.declared.Notice.the-variants.{None, Up, Changed, Released, SetupFailed, ChangeFailed, Rejected, Confused, Discarded}
 use Rattle.book.specs.Book.{Book, idle, awaitSetup, up, awaitChange, Verdict, refused, discarded, opened, agreed, failed, released, confused, accepted, rejected}
-use Rattle.book.specs.Book.{Answer, refusal, answer, settled, closed, moved, answered, byBearer}
+use Rattle.book.specs.Book.{Answer, refusal, answer, settled, moved, answered, byBearer}
 
 -- an event, what it was answered, and the bearer in force after it
 pub record Line (Bearer Event : Type 0) : Type 0 where

@@ -9,11 +9,10 @@ use lib.ListN.{length, drop}
 use lib.Seq.{take-at}
 use native.Mathlib.Omega.{arith}
 use Rattle.octets.proofs.CaseLaws.{by-bool}
-use Rattle.book.specs.declared.State.the-variants.{Idle}
 use Rattle.book.specs.Book.{idle, settled, answered, refusal, answer}
 use Rattle.book.specs.Book as told
 use Rattle.book.specs.Strike as strike
-use Rattle.book.specs.Strike.{logged, logOf, keptOf, eventsOf, lastSettled}
+use Rattle.book.specs.Strike.{logged, logOf, lastSettled}
 use Rattle.book.proofs.Struck.{struck}
 use Rattle.media.specs.Stream.{Stream}
 use Rattle.configuration.specs.declared.Config.{Config}

@@ -3,9 +3,9 @@
 -- Assumes nothing.
 use Prim.Native.Nat.{ℕ, _≤_, _<_}
 use mathlib.Core.Path.{_≡_, refl, sym, _∙_, ap, subst}
-use mathlib.Core.Bool.{Bool, true, false, cond, false≢true}
+use mathlib.Core.Bool.{Bool, true, false, cond}
 use mathlib.Core.List.{List}
-use mathlib.Core.Option.{Option, none, some, Option·map}
+use mathlib.Core.Option.{Option, none, some}
 use lib.ListN.{length}
 use native.Mathlib.Omega.{arith}
 use borrow.Author.Tests.{lt-ltb, le-ltb}
@@ -47,29 +47,17 @@ offered-content q h = rw h
 
 -- ---- the timers' rules, read on the state
 module _ (c : Configuration) where
-  t1-awaited : (st : State) (s : Side) (q : Stream) (b : Bearer) → awaitsT1 st ≡ true → ruled c (bookBy st s q b) Event.t1 ≡ failed
-  t1-awaited Idle s q b h = absurd (false≢true h)
-  t1-awaited AwaitSetup s q b h = refl
-  t1-awaited Up s q b h = absurd (false≢true h)
-  t1-awaited AwaitChange s q b h = absurd (false≢true h)
+  t1-by : (st : State) (s : Side) (q : Stream) (b : Bearer) → ruled c (bookBy st s q b) Event.t1 ≡ cond (awaitsT1 st) failed discarded
+  t1-by Idle s q b = refl
+  t1-by AwaitSetup s q b = refl
+  t1-by Up s q b = refl
+  t1-by AwaitChange s q b = refl
 
-  t1-stray : (st : State) (s : Side) (q : Stream) (b : Bearer) → awaitsT1 st ≡ false → ruled c (bookBy st s q b) Event.t1 ≡ discarded
-  t1-stray Idle s q b h = refl
-  t1-stray AwaitSetup s q b h = absurd (false≢true (sym h))
-  t1-stray Up s q b h = refl
-  t1-stray AwaitChange s q b h = refl
-
-  t2-awaited : (st : State) (s : Side) (q : Stream) (b : Bearer) → awaitsT2 st ≡ true → ruled c (bookBy st s q b) Event.t2 ≡ failed
-  t2-awaited Idle s q b h = absurd (false≢true h)
-  t2-awaited AwaitSetup s q b h = absurd (false≢true h)
-  t2-awaited Up s q b h = absurd (false≢true h)
-  t2-awaited AwaitChange s q b h = refl
-
-  t2-stray : (st : State) (s : Side) (q : Stream) (b : Bearer) → awaitsT2 st ≡ false → ruled c (bookBy st s q b) Event.t2 ≡ discarded
-  t2-stray Idle s q b h = refl
-  t2-stray AwaitSetup s q b h = refl
-  t2-stray Up s q b h = refl
-  t2-stray AwaitChange s q b h = absurd (false≢true (sym h))
+  t2-by : (st : State) (s : Side) (q : Stream) (b : Bearer) → ruled c (bookBy st s q b) Event.t2 ≡ cond (awaitsT2 st) failed discarded
+  t2-by Idle s q b = refl
+  t2-by AwaitSetup s q b = refl
+  t2-by Up s q b = refl
+  t2-by AwaitChange s q b = refl
 
 module _ (self : Endpoint) where
   -- an event whose buffer is too short
@@ -93,22 +81,28 @@ module _ (self : Endpoint) where
       → ruled (configurationBy (self .config)) (bookBy s (self .side) (requestBy (self .request)) (bearerBy (self .bearer))) e ≡ v → Did self e xs xs r
   did-silent e xs r s v h p g q = did e xs xs r s v h p (g xs) q
 
-  -- ---- timers: one that is awaited ends the attempt, and any other is discarded
-  expired : (e : Event) (v : Verdict) (xs : List ℕ) (r : Answer) → leastRoom ≤ length xs → ruled (configurationBy (self .config)) (bookOf self) e ≡ v → Silent self v r → Did self e xs xs r
-  expired e v xs r l p g = did-silent e xs r (self .state) v l refl g p
-
+  -- ---- timers: one that is awaited ends the attempt, and any other is discarded; t and w are whether it is awaited
   module _ (t : Bool) (xs : List ℕ) (r : Answer) (l : leastRoom ≤ length xs) where
+    timed : (e : Event) (w : Bool) → ruled (configurationBy (self .config)) (bookOf self) e ≡ cond w failed discarded → t ≡ w → Silent self (cond t failed discarded) r → Did self e xs xs r
+    timed e w k p g = did-silent e xs r (self .state) (cond t failed discarded) l refl g (k ∙ ap (λ (b : Bool). cond b failed discarded) (sym p))
+
+    by-t1 : t ≡ awaitsT1 (self .state) → Silent self (cond t failed discarded) r → Did self Event.t1 xs xs r
+    by-t1 p g = timed Event.t1 (awaitsT1 (self .state)) (t1-by (configurationBy (self .config)) (self .state) (self .side) (requestBy (self .request)) (bearerBy (self .bearer))) p g
+
+    by-t2 : t ≡ awaitsT2 (self .state) → Silent self (cond t failed discarded) r → Did self Event.t2 xs xs r
+    by-t2 p g = timed Event.t2 (awaitsT2 (self .state)) (t2-by (configurationBy (self .config)) (self .state) (self .side) (requestBy (self .request)) (bearerBy (self .bearer))) p g
+
     pub expired-t1 : t ≡ awaitsT1 (self .state) → t ≡ true → Silent self failed r → Did self Event.t1 xs xs r
-    expired-t1 p q g = expired Event.t1 failed xs r l (t1-awaited (configurationBy (self .config)) (self .state) (self .side) (requestBy (self .request)) (bearerBy (self .bearer)) (sym p ∙ q)) g
+    expired-t1 p q g = by-t1 p (rw q g)
 
     pub stray-t1 : t ≡ awaitsT1 (self .state) → t ≡ false → Silent self discarded r → Did self Event.t1 xs xs r
-    stray-t1 p q g = expired Event.t1 discarded xs r l (t1-stray (configurationBy (self .config)) (self .state) (self .side) (requestBy (self .request)) (bearerBy (self .bearer)) (sym p ∙ q)) g
+    stray-t1 p q g = by-t1 p (rw q g)
 
     pub expired-t2 : t ≡ awaitsT2 (self .state) → t ≡ true → Silent self failed r → Did self Event.t2 xs xs r
-    expired-t2 p q g = expired Event.t2 failed xs r l (t2-awaited (configurationBy (self .config)) (self .state) (self .side) (requestBy (self .request)) (bearerBy (self .bearer)) (sym p ∙ q)) g
+    expired-t2 p q g = by-t2 p (rw q g)
 
     pub stray-t2 : t ≡ awaitsT2 (self .state) → t ≡ false → Silent self discarded r → Did self Event.t2 xs xs r
-    stray-t2 p q g = expired Event.t2 discarded xs r l (t2-stray (configurationBy (self .config)) (self .state) (self .side) (requestBy (self .request)) (bearerBy (self .bearer)) (sym p ∙ q)) g
+    stray-t2 p q g = by-t2 p (rw q g)
 
   -- ---- a message that a writer was asked for
   -- it writes octets, or refuses by 5

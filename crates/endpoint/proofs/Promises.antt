@@ -11,11 +11,8 @@ use native.Mathlib.Omega.{arith}
 use borrow.Author.Tests.{le-ltb, le-leb}
 use Rattle.octets.proofs.CaseLaws.{by-bool}
 use Rattle.book.specs.declared.State.{State}
-use Rattle.book.specs.declared.State.the-variants.{Up}
-use Rattle.book.specs.declared.Side.the-variants.{I, R}
 use Rattle.book.specs.declared.Notice.{Notice}
-use Rattle.book.specs.declared.Notice
-use Rattle.book.specs.Book.{idle, awaitSetup, up, awaitChange, settled, awaited, ignores, closed, settling, stateOf, moved, answered, byBearer, drops}
+use Rattle.book.specs.Book.{settled, awaited, ignores, answered}
 use Rattle.book.specs.Book.{refused, discarded, opened, agreed, failed, released, confused, accepted, rejected}
 use Rattle.book.specs.Strike.{heldBy}
 use Rattle.book.proofs.Struck.{held-more}
@@ -28,7 +25,7 @@ use Rattle.ipbcp.specs.Types.{headIn}
 use Rattle.ipbcp.specs.Reading.{Reading, typed, described, readMessage, mostOctets}
 use Rattle.ipbcp.specs.Reading as reading
 use Rattle.ipbcp.specs.Writing as writing
-use Rattle.ipbcp.specs.Writing.{messageText, octetsOf}
+use Rattle.ipbcp.specs.Writing.{messageText}
 use Rattle.configuration.specs.Configuration.{Configuration, rightConfiguration}
 use Rattle.configuration.specs.Meaning.{configurationBy, configInside, rightConfig}
 use Rattle.bearer.specs.Bearer.{Bearer}
@@ -41,9 +38,9 @@ use Rattle.endpoint.specs.declared.Answer.{Answer}
 use Rattle.endpoint.specs.declared.Reply.{Reply}
 use Rattle.endpoint.specs.declared.Reply.the-variants.{Refused, Done}
 use Rattle.endpoint.specs.Rule.{Book, Verdict, Event, Given, commanding, confusing, rejecting, judging, taking, answering, hearing, ruled, rule, exchanged, leastRoom}
-use Rattle.endpoint.specs.Step.{bookOf, written, replyFor, outFor, Gave, Did}
+use Rattle.endpoint.specs.Step.{bookOf, Gave, Did}
 use Rattle.endpoint.specs.Claim.{toldBy}
-use Rattle.endpoint.specs.Promises.{rightIn, isRightAccepted, Takes, isRightRequest, Answers, Judges}
+use Rattle.endpoint.specs.Promises.{rightIn, Takes, Judges}
 use Rattle.endpoint.proofs.Ruled.{rule-laws}
 use Rattle.endpoint.proofs.Demand.{told-back}
 

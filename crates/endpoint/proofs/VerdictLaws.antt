@@ -4,7 +4,6 @@
 use Prim.Native.Nat.{ℕ}
 use mathlib.Core.Path.{_≡_, refl, _∙_, ap}
 use mathlib.Core.Bool.{Bool, false}
-use mathlib.Core.List.{List}
 use Rattle.book.specs.declared.State.{State}
 use Rattle.book.specs.declared.State.the-variants.{Idle, AwaitSetup, Up, AwaitChange}
 use Rattle.book.specs.declared.Side.{Side}
@@ -12,7 +11,7 @@ use Rattle.book.specs.declared.Side.the-variants.{I, R}
 use Rattle.book.specs.declared.Notice.{Notice}
 use Rattle.book.specs.declared.Notice
 use Rattle.book.specs.Book.{discarded, opened, agreed, failed, confused, accepted, rejected}
-use Rattle.book.specs.Book.{closed, opening, settling, stateOf, settled, awaited, ignores, byBearer, drops}
+use Rattle.book.specs.Book.{closed, opening, settling, stateOf, settled, ignores, byBearer, drops}
 use Rattle.book.specs.States.{closedState, openedState, settledSide, byState, holdsAt, dropsAt, ignoresAt}
 use Rattle.media.specs.Stream.{Stream}
 use Rattle.bearer.specs.declared.Request as ours

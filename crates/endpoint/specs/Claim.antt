@@ -10,7 +10,6 @@ use Rattle.book.specs.Book as told
 use Rattle.book.specs.Strike as strike
 use Rattle.book.specs.Strike.{undropped, eventsOf, logOf, keptOf, lastSettled}
 use Rattle.configuration.specs.declared.Config.{Config}
-use Rattle.configuration.specs.Configuration.{Configuration}
 use Rattle.configuration.specs.Meaning.{configurationBy, rightConfig}
 use Rattle.bearer.specs.Bearer.{Bearer}
 use Rattle.endpoint.specs.declared.Endpoint.{Endpoint}

@@ -13,7 +13,6 @@ use Rattle.book.specs.Book.{settled, closed, settling, stateOf, byBearer, drops
 use Rattle.ipbcp.specs.Reading.{readMessage}
 use Rattle.ipbcp.specs.Writing as writing
 use Rattle.ipbcp.specs.Writing.{messageText}
-use Rattle.configuration.specs.Configuration.{Configuration}
 use Rattle.configuration.specs.Meaning.{configurationBy}
 use Rattle.media.specs.Stream.{Stream}
 use Rattle.bearer.specs.Bearer.{Bearer}

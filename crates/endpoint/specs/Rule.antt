@@ -1,7 +1,7 @@
 -- Document 01, "One endpoint": what the rules make of an event, by the configuration and the book alone. The book is in `Book` of
 -- `book`; what a message is to an endpoint and which Requests and Accepteds are right is in `Hearing` and `Judging` of `bearer`.
 use Prim.Native.Nat.{ℕ}
-use mathlib.Core.Bool.{Bool, true, false, cond}
+use mathlib.Core.Bool.{cond}
 use mathlib.Core.List.{List}
 use mathlib.Core.Option.{Option, none, some}
 use lib.Dec.{ltb}

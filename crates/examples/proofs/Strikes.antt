@@ -4,7 +4,7 @@
 use Prim.Native.Nat.{ℕ}
 use mathlib.Core.Path.{_≡_, refl}
 use mathlib.Core.List.{List, [], _∷_, map}
-use mathlib.Core.Option.{Option, none, some, Option·elim}
+use mathlib.Core.Option.{none, some, Option·elim}
 use Rattle.octets.specs.Words.{begins, same}
 use Rattle.octets.specs.Split.{has}
 use Rattle.octets.specs.Append.{widthFrom, numberText}
@@ -14,7 +14,7 @@ use Rattle.sdp.specs.Written.{lineText, linesText}
 use Rattle.address.specs.declared.Address.the-variants.{V4}
 use Rattle.address.specs.Kinds.{isUnicast}
 use Rattle.address.specs.Canonical.{eachAfter, joined, numbersOf, addressText, ipv4Text}
-use Rattle.media.specs.Stream.{Stream, mediaText, attributeText, rtpmapText, fmtpText, ptimeText, rtpmapLines, fmtpLines, octetsTogether, attributesFit}
+use Rattle.media.specs.Stream.{mediaText, attributeText, rtpmapText, fmtpText, ptimeText, rtpmapLines, fmtpLines, octetsTogether, attributesFit}
 use Rattle.ipbcp.specs.Types.{wordOf}
 use Rattle.ipbcp.specs.Writing.{familyWord, hostText, originText, connectionText, ipbcpText, ptimeLines, streamLines, kindIn, mediaLines, messageLines, messageText, isToken, allTextsPlain, rightMedia, rightAttributes, rightContent, octetsOf}
 use Rattle.configuration.specs.Configuration.{Configuration, fixed, named, entryIn, suits, nameOf, names, namedIn, noneOrInRange}
