@@ -1,3 +1,3 @@
--- The worked examples.
+-- The worked examples, and the lists of events with what is struck of them.
 pub mod Examples
 pub mod Strikes

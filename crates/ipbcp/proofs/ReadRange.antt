@@ -30,7 +30,7 @@ use Rattle.ipbcp.specs.declared.Head.{Head}
 use Rattle.ipbcp.specs.declared.Head.the-variants.{Typed, Untyped}
 use Rattle.ipbcp.specs.Types.{headIn}
 use Rattle.ipbcp.specs.Reading.{refused, typed, described, linesOf, finish, isDescribed, byHead, readMessage}
-use Rattle.ipbcp.specs.Writing.{Content, accepted, messageText, isToken, allTextsPlain, rightMedia, rightAttributes, rightContent, octetsOf}
+use Rattle.ipbcp.specs.Writing.{Content, messageText, isToken, allTextsPlain, rightMedia, rightAttributes, rightContent, octetsOf}
 use Rattle.ipbcp.proofs.ReadLaws.{read-lined}
 use Rattle.ipbcp.proofs.WrittenLaws.{attribute-parts}
 use Rattle.ipbcp.proofs.Lengths.{voice, length-message}
@@ -374,8 +374,3 @@ read-right m k a s e =
 pub content-octets : (own : Address) (c : Content) → isUnicast own ≡ true → rightContent c ≡ true → voice c → octetsOf own c ≡ some (messageText own c)
 unfolding octetsOf
 content-octets own c u h v = rw (u, h, le-leb (length (messageText own c)) 447 (length-message own c h v))
-
-pub accepted-octets : (own : Address) (s : Stream) → isUnicast own ≡ true → rightMedia s ≡ true → rightAttributes s ≡ true → length (s .media) + length (s .transport) ≤ 12
-    → octetsOf own (accepted s) ≡ some (messageText own (accepted s))
-unfolding rightContent voice
-accepted-octets own s u h j v = content-octets own (accepted s) u (rw (h, j)) v
