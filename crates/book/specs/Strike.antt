@@ -17,16 +17,19 @@ pub record Line (Bearer Event : Type 0) : Type 0 where
   pub reply : Answer
   pub bearer : Option Bearer
 
+abbrev pub Lines : Type 0 → Type 0 → Type 0
+Lines Bearer Event = List (Line Bearer Event)
+
 -- the book, and the lines of the events so far
 pub record Log (Bearer Request Event : Type 0) : Type 0 where
   pub book : Book Bearer Request
-  pub lines : List (Line Bearer Event)
+  pub lines : Lines Bearer Event
 
 -- the log with failed attempts struck: the lines that are left, and those that were left when the open Request's command came
 pub record Sheet (Bearer Request Event : Type 0) : Type 0 where
   pub book : Book Bearer Request
-  pub kept : List (Line Bearer Event)
-  pub before : List (Line Bearer Event)
+  pub kept : Lines Bearer Event
+  pub before : Lines Bearer Event
 
 -- the same answer, with no change of ours dropped
 abbrev pub undroppedReply : Answer → Answer
@@ -54,16 +57,16 @@ module _ {Bearer Event : Type 0} where
   abbrev pub undropped : Line Bearer Event → Line Bearer Event
   undropped l = record { event = l .event; reply = undroppedReply (l .reply); bearer = l .bearer }
 
-  abbrev pub eventsOf : List (Line Bearer Event) → List Event
+  abbrev pub eventsOf : Lines Bearer Event → List Event
   eventsOf ls = map (λ l. l .event) ls
 
   -- the bearer of the last successful exchange since the last release that was not refused
-  abbrev pub lastSettled : (Event → Option Bearer) → List (Line Bearer Event) → Option Bearer
+  abbrev pub lastSettled : (Event → Option Bearer) → Lines Bearer Event → Option Bearer
   lastSettled exchanged ls = foldl {B = Option Bearer} (λ was l. heldBy (l .reply) was (exchanged (l .event))) none ls
 
 module _ {Bearer Request Event : Type 0} where
   -- the lines that are left when the open attempt is struck: its command and all after it
-  abbrev pub unattempted : Book Bearer Request → List (Line Bearer Event) → List (Line Bearer Event) → List (Line Bearer Event)
+  abbrev pub unattempted : Book Bearer Request → Lines Bearer Event → Lines Bearer Event → Lines Bearer Event
   unattempted idle before kept = kept
   unattempted (awaitSetup q) before kept = before
   unattempted (up s b) before kept = kept
@@ -73,7 +76,7 @@ module _ {Bearer Request Event : Type 0} where
   -- commands and a right Accepted stay. What ends an attempt strikes it and goes with it. A release strikes the open attempt; it
   -- goes with a set-up and stays after a change. A Request answered Confused goes alone. One that is judged strikes an open
   -- change, and stays if it is right.
-  abbrev pub keptAfter : Book Bearer Request → List (Line Bearer Event) → List (Line Bearer Event) → Line Bearer Event → Verdict Bearer Request → List (Line Bearer Event)
+  abbrev pub keptAfter : Book Bearer Request → Lines Bearer Event → Lines Bearer Event → Line Bearer Event → Verdict Bearer Request → Lines Bearer Event
   keptAfter k before kept l (refused n) = kept ++ (l ∷ [])
   keptAfter k before kept l discarded = kept ++ (l ∷ [])
   keptAfter k before kept l (opened q o) = kept ++ (l ∷ [])
@@ -85,7 +88,7 @@ module _ {Bearer Request Event : Type 0} where
   keptAfter k before kept l (rejected o) = unattempted k before kept
 
   -- a command notes what stands before it
-  abbrev pub beforeAfter : List (Line Bearer Event) → List (Line Bearer Event) → Verdict Bearer Request → List (Line Bearer Event)
+  abbrev pub beforeAfter : Lines Bearer Event → Lines Bearer Event → Verdict Bearer Request → Lines Bearer Event
   beforeAfter before kept (refused n) = before
   beforeAfter before kept discarded = before
   beforeAfter before kept (opened q o) = kept
@@ -119,7 +122,7 @@ module _ {Bearer Request Event : Type 0} where
     sheetOf es = foldl marked (record { book = idle; kept = []; before = [] }) es
 
     -- the lines of the run that no failed attempt takes
-    abbrev pub keptOf : List Event → List (Line Bearer Event)
+    abbrev pub keptOf : List Event → Lines Bearer Event
     keptOf es = sheetOf es .kept
 
     -- what the claim asks of the rule

@@ -36,8 +36,8 @@ pub record Given : Type 0 where
   pub event : Event
   pub room : ℕ
 
--- A verdict that writes a message: its octets, or number 5 where a field is out of range, which no configuration that can be used
--- brings about (`Writable`).
+-- A verdict that writes a message: its octets, or number 5 where a field is out of range. No configuration that can be used brings
+-- that about, as `Writable` among the laws of `bearer` shows.
 abbrev pub said : Option (List ℕ) → (List ℕ → Verdict) → Verdict
 said none v = refused 5
 said (some o) v = v o
