@@ -8,8 +8,8 @@ use mathlib.Core.Option.{Option, none, some, Option·none-ne-some}
 use lib.ListN.{length}
 use lib.Dec.{eqb, leb}
 use native.Mathlib.Omega.{arith}
-use borrow.Author.Tests.{le-ltb, le-leb}
-use Rattle.octets.proofs.CaseLaws.{by-bool}
+use borrow.Author.Tests.{le-ltb, le-leb, ne-eqb}
+use Rattle.octets.proofs.CaseLaws.{by-eq, by-bool}
 use Rattle.book.specs.declared.State.{State}
 use Rattle.book.specs.declared.Notice.{Notice}
 use Rattle.book.specs.Book.{settled, awaited, ignores, answered}
@@ -40,7 +40,7 @@ use Rattle.endpoint.specs.declared.Reply.the-variants.{Refused, Done}
 use Rattle.endpoint.specs.Rule.{Book, Verdict, Event, Given, commanding, confusing, rejecting, judging, taking, answering, hearing, ruled, rule, exchanged, leastRoom}
 use Rattle.endpoint.specs.Step.{bookOf, Gave, Did}
 use Rattle.endpoint.specs.Claim.{toldBy}
-use Rattle.endpoint.specs.Promises.{rightIn, Takes, Judges}
+use Rattle.endpoint.specs.Promises.{rightIn, Discards, Takes, Judges, Confuses}
 use Rattle.endpoint.proofs.Ruled.{rule-laws}
 use Rattle.endpoint.proofs.Demand.{told-back}
 
@@ -116,6 +116,18 @@ accepted-exactly self q m xs ys version r did room short head awaits =
         ∙ ap (λ (o : Option Stream). answering o (λ x. taking c (settled (bookOf self)) x (bearerIn (readMessage m)))) awaits
         ∙ p)
 
+discards : (self : Endpoint) (xs ys : List ℕ) (r : Answer) → Gave self discarded xs ys r → Discards self xs ys r
+discards self xs ys r g = record { endpoint = g .unaltered; reply = g .reply; out = g .out }
+
+-- where no Request of ours is open, it is discarded
+pub accepted-unawaited : (self : Endpoint) (m xs ys : List ℕ) (version : ℕ) (r : Answer) → Did self (Event.message m) xs ys r
+    → leastRoom ≤ length xs → length m ≤ mostOctets → headIn m ≡ Typed version kind.Accepted → awaited (bookOf self) ≡ none → Discards self xs ys r
+accepted-unawaited self m xs ys version r did room short head unawaited =
+    discards self xs ys r
+    (gave-ruled self (Event.message m) xs ys r discarded did room
+    (ap (hearing (configurationBy (self .config)) (bookOf self)) (heard-accepted m version short head)
+    ∙ ap (λ (o : Option Stream). answering o (λ x. taking (configurationBy (self .config)) (settled (bookOf self)) x (bearerIn (readMessage m)))) unawaited))
+
 -- ---- demand 2: a peer's Request is accepted exactly when it is right
 heard-request : (m : List ℕ) → length m ≤ mostOctets → headIn m ≡ Typed 1 kind.Request → heard m ≡ hears.request (bearerIn (readMessage m))
 unfolding heard heardBy
@@ -174,6 +186,37 @@ request-exactly self m xs ys r config did room short head heeds =
         (ap (hearing c (bookOf self)) (heard-request m short head)
         ∙ ap (λ (t : Bool). cond t discarded (judging c (settled (bookOf self)) (bearerIn (readMessage m)))) heeds
         ∙ p)
+
+-- one of another version is heard as such
+heard-other : (m : List ℕ) (version : ℕ) → length m ≤ mostOctets → headIn m ≡ Typed version kind.Request → (version ≡ 1 → ⊥) → heard m ≡ hears.otherRequest
+unfolding heard heardBy
+heard-other m version l h n = rw (le-leb (length m) mostOctets l, h, ne-eqb version 1 n)
+
+-- it is answered Confused, where Requests are not discarded
+pub request-confused : (self : Endpoint) (m xs ys : List ℕ) (version : ℕ) (r : Answer) → rightConfig (self .config) ≡ true → Did self (Event.message m) xs ys r
+    → leastRoom ≤ length xs → length m ≤ mostOctets → headIn m ≡ Typed version kind.Request → (version ≡ 1 → ⊥) → ignores (bookOf self) ≡ false → Confuses self xs ys r
+unfolding configurationBy
+request-confused self m xs ys version r config did room short head other heeds =
+    let c = configurationBy (self .config) in
+    let g =
+    gave-ruled self (Event.message m) xs ys r (confused (messageText (c .own) writing.confused)) did room
+    (ap (hearing c (bookOf self)) (heard-other m version short head other)
+    ∙ ap (λ (t : Bool). cond t discarded (confusing c)) heeds
+    ∙ confusing-is c (usable self config)) in
+    record { endpoint = g .unaltered; out = g .out; reply = g .reply }
+
+-- and any Request is discarded while our set-up is awaited, and at I while our change is
+pub request-ignored : (self : Endpoint) (m xs ys : List ℕ) (version : ℕ) (r : Answer) → Did self (Event.message m) xs ys r
+    → leastRoom ≤ length xs → length m ≤ mostOctets → headIn m ≡ Typed version kind.Request → ignores (bookOf self) ≡ true → Discards self xs ys r
+request-ignored self m xs ys version r did room short head ignored =
+    discards self xs ys r
+    (gave-ruled self (Event.message m) xs ys r discarded did room
+    (by-eq version 1 _
+    (λ e. ap (hearing c (bookOf self)) (heard-request m short (head ∙ ap (λ (v : ℕ). Typed v kind.Request) e)) ∙ ap (λ (t : Bool). cond t discarded (judging c (settled (bookOf self)) (bearerIn (readMessage m)))) ignored)
+    (λ e. ap (hearing c (bookOf self)) (heard-other m version short head e) ∙ ap (λ (t : Bool). cond t discarded (confusing c)) ignored)))
+  where
+    c : Configuration
+    c = configurationBy (self .config)
 
 -- ---- an endpoint whose configuration is not refused refuses no message but for a short buffer, and no command that has a Request
 abbrev Answered : Verdict → Type 0

@@ -28,6 +28,12 @@ abbrev pub rightIn : (Bearer → Bool) → Option Bearer → Bool
 rightIn right none = false
 rightIn right (some d) = right d
 
+-- the event is discarded: the endpoint is as it was, and nothing is written
+pub record Discards (self : Endpoint) (before after : List ℕ) (r : Answer) : Type 0 where
+  pub endpoint : r .endpoint ≡ self
+  pub reply : r .reply ≡ Done (stateOf (bookOf self)) Notice.Discarded 0 false
+  pub out : after ≡ before
+
 -- ---- demand 2: an Accepted
 -- m is right for our Request q
 abbrev pub isRightAccepted : Endpoint → Stream → List ℕ → Bool
@@ -58,3 +64,9 @@ pub record Judges (self : Endpoint) (m before after : List ℕ) (r : Answer) : T
       × Answers self (writing.accepted (answerTo (configurationBy (self .config)) d)) before after r Up (byBearer (bookOf self) Notice.Up Notice.Changed)
   pub wrong : isRightRequest self m ≡ false
       → (bookOf (r .endpoint) ≡ closed (bookOf self)) × Answers self writing.rejected before after r (stateOf (closed (bookOf self))) Notice.Rejected
+
+-- a Request of another version is answered Confused, and alters nothing
+pub record Confuses (self : Endpoint) (before after : List ℕ) (r : Answer) : Type 0 where
+  pub endpoint : r .endpoint ≡ self
+  pub out : after ≡ written (messageText (self .config .own) writing.confused) before
+  pub reply : r .reply ≡ Done (stateOf (bookOf self)) Notice.Confused (length (messageText (self .config .own) writing.confused)) false

@@ -68,6 +68,7 @@ impl Endpoint {
         }
     }
 
+    // The event is refused by n.
     pub(crate) fn refused(self, n: u8) -> Answer
         ensures { λ r. ⌜ Silent self (Verdict.refused n) r ⌝ }
     {
@@ -77,6 +78,7 @@ impl Endpoint {
         }
     }
 
+    // The event is discarded.
     pub(crate) fn discarded(self) -> Answer
         ensures { λ r. ⌜ Silent self Verdict.discarded r ⌝ }
     {
@@ -111,6 +113,7 @@ impl Endpoint {
         }
     }
 
+    // The bearer or the attempt is released.
     pub(crate) fn released(self) -> Answer
         ensures { λ r. ⌜ Silent self Verdict.released r ⌝ }
     {
