@@ -78,13 +78,15 @@ module _ (self : Endpoint) where
         subst (λ (o : Option Stream). Gave self (answering o v) xs xs r)
         (sym (awaited-yes (self .state) (self .side) (requestBy (self .request)) (bearerBy (self .bearer)) (sym p ∙ q))) (g xs)
 
+  -- the bearer in force, read on the state
+  in-force : (held : Bool) → held ≡ holdsAt (self .state) → settled (bookOf self) ≡ heldIf held (bearerBy (self .bearer))
+  in-force held h = sym (ap (λ (b : Bool). heldIf b (bearerBy (self .bearer))) h ∙ held-by (self .state) (self .side) (requestBy (self .request)) (bearerBy (self .bearer)))
+
   -- ---- a Request judged
   module _ (held t : Bool) (d : Bearer) (h : held ≡ holdsAt (self .state)) (e : t ≡ rightRequest (configurationBy (self .config)) (heldIf held (bearerBy (self .bearer))) d) where
     judged : rightRequest (configurationBy (self .config)) (settled (bookOf self)) d ≡ t
     judged =
-        ap (λ (f : Option Bearer). rightRequest (configurationBy (self .config)) f d)
-        (sym (ap (λ (b : Bool). heldIf b (bearerBy (self .bearer))) h ∙ held-by (self .state) (self .side) (requestBy (self .request)) (bearerBy (self .bearer))))
-        ∙ sym e
+        ap (λ (f : Option Bearer). rightRequest (configurationBy (self .config)) f d) (in-force held h) ∙ sym e
 
     pub judged-right : (xs ys : List ℕ) (r : Answer) → t ≡ true → Gave self (accepting (configurationBy (self .config)) d) xs ys r
         → Gave self (judging (configurationBy (self .config)) (settled (bookOf self)) (some d)) xs ys r
@@ -101,9 +103,7 @@ module _ (self : Endpoint) where
       (e : t ≡ rightAccepted (configurationBy (self .config)) (heldIf held (bearerBy (self .bearer))) (requestBy (self .request)) d) where
     taken : rightAccepted (configurationBy (self .config)) (settled (bookOf self)) (requestBy (self .request)) d ≡ t
     taken =
-        ap (λ (f : Option Bearer). rightAccepted (configurationBy (self .config)) f (requestBy (self .request)) d)
-        (sym (ap (λ (b : Bool). heldIf b (bearerBy (self .bearer))) h ∙ held-by (self .state) (self .side) (requestBy (self .request)) (bearerBy (self .bearer))))
-        ∙ sym e
+        ap (λ (f : Option Bearer). rightAccepted (configurationBy (self .config)) f (requestBy (self .request)) d) (in-force held h) ∙ sym e
 
     pub taken-right : (r : Answer) → t ≡ true → Silent self (agreed d) r → Silent self (taking (configurationBy (self .config)) (settled (bookOf self)) (requestBy (self .request)) (some d)) r
     taken-right r q g xs = subst (λ (b : Bool). Gave self (cond b (agreed d) failed) xs xs r) (sym (taken ∙ q)) (g xs)

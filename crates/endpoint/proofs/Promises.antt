@@ -41,27 +41,30 @@ use Rattle.endpoint.specs.Rule.{Book, Verdict, Event, Given, commanding,
 use Rattle.endpoint.specs.Step.{bookOf, Gave, Did}
 use Rattle.endpoint.specs.Claim.{toldBy}
 use Rattle.endpoint.specs.Promises.{rightIn, Discards, Takes, Judges, Confuses}
-use Rattle.endpoint.proofs.Ruled.{rule-laws}
+use Rattle.endpoint.proofs.Ruled.{either, rule-laws}
 use Rattle.endpoint.proofs.Demand.{told-back}
 
 -- ---- demand 1: a refusal alters nothing
 no-refusal : {r : Reply} {s : State} {n : Notice} {w : ℕ} {d : Bool} {m : ℕ} → r ≡ Done s n w d → r ≡ Refused m → ⊥
 no-refusal p q = let z : _≡_ {A = ℕ} 0 1 = cc in omega arith
 
-refused-gave : (self : Endpoint) (v : Verdict) (xs ys : List ℕ) (r : Answer) (n : ℕ) → Gave self v xs ys r → r .reply ≡ Refused n → (r .endpoint ≡ self) × (ys ≡ xs)
-refused-gave self (refused m) xs ys r n g e = (g .unaltered, g .out)
-refused-gave self discarded xs ys r n g e = absurd (no-refusal (g .reply) e)
-refused-gave self (opened q o) xs ys r n g e = absurd (no-refusal (g .reply) e)
-refused-gave self (agreed b) xs ys r n g e = absurd (no-refusal (g .reply) e)
-refused-gave self failed xs ys r n g e = absurd (no-refusal (g .reply) e)
-refused-gave self released xs ys r n g e = absurd (no-refusal (g .reply) e)
-refused-gave self (confused o) xs ys r n g e = absurd (no-refusal (g .reply) e)
-refused-gave self (accepted b o) xs ys r n g e = absurd (no-refusal (g .reply) e)
-refused-gave self (rejected o) xs ys r n g e = absurd (no-refusal (g .reply) e)
+-- what is answered by a refusal's number got that verdict
+refused-is : (self : Endpoint) (v : Verdict) (xs ys : List ℕ) (r : Answer) (n : ℕ) → Gave self v xs ys r → r .reply ≡ Refused n → v ≡ refused n
+refused-is self (refused m) xs ys r n g e = let p = g .reply in let same : m ≡ n = cc in ap (λ (k : ℕ). refused k) same
+refused-is self discarded xs ys r n g e = absurd (no-refusal (g .reply) e)
+refused-is self (opened q o) xs ys r n g e = absurd (no-refusal (g .reply) e)
+refused-is self (agreed b) xs ys r n g e = absurd (no-refusal (g .reply) e)
+refused-is self failed xs ys r n g e = absurd (no-refusal (g .reply) e)
+refused-is self released xs ys r n g e = absurd (no-refusal (g .reply) e)
+refused-is self (confused o) xs ys r n g e = absurd (no-refusal (g .reply) e)
+refused-is self (accepted b o) xs ys r n g e = absurd (no-refusal (g .reply) e)
+refused-is self (rejected o) xs ys r n g e = absurd (no-refusal (g .reply) e)
 
 -- the endpoint and the buffer are as they were
 pub refusal-alters-nothing : (self : Endpoint) (e : Event) (xs ys : List ℕ) (r : Answer) (n : ℕ) → Did self e xs ys r → r .reply ≡ Refused n → (r .endpoint ≡ self) × (ys ≡ xs)
-refusal-alters-nothing self e xs ys r n did p = refused-gave self _ xs ys r n did p
+refusal-alters-nothing self e xs ys r n did p =
+    let g = subst (λ (v : Verdict). Gave self v xs ys r) (refused-is self _ xs ys r n did p) did in
+    (g .unaltered, g .out)
 
 -- ---- demand 3: the bearer in force
 -- It changes by an exchange that succeeds, whose bearer it then is, and by a release; by nothing else: `held` says so by the notice.
@@ -230,17 +233,6 @@ Answered (confused o) = Unit {0}
 Answered (accepted b o) = Unit {0}
 Answered (rejected o) = Unit {0}
 
-unrefused : (self : Endpoint) (v : Verdict) (xs ys : List ℕ) (r : Answer) (n : ℕ) → Gave self v xs ys r → Answered v → r .reply ≡ Refused n → ⊥
-unrefused self (refused m) xs ys r n g a e = a
-unrefused self discarded xs ys r n g a e = no-refusal (g .reply) e
-unrefused self (opened q o) xs ys r n g a e = no-refusal (g .reply) e
-unrefused self (agreed b) xs ys r n g a e = no-refusal (g .reply) e
-unrefused self failed xs ys r n g a e = no-refusal (g .reply) e
-unrefused self released xs ys r n g a e = no-refusal (g .reply) e
-unrefused self (confused o) xs ys r n g a e = no-refusal (g .reply) e
-unrefused self (accepted b o) xs ys r n g a e = no-refusal (g .reply) e
-unrefused self (rejected o) xs ys r n g a e = no-refusal (g .reply) e
-
 -- a Request of version 1 names what can be read of it
 request-names : (m : List ℕ) (d : Option Bearer) → heard m ≡ hears.request d → d ≡ bearerIn (readMessage m)
 unfolding heard heardBy
@@ -263,10 +255,6 @@ answering-answered : (o : Option Stream) (v : Stream → Verdict) → ((q : Stre
 answering-answered none v a = tt
 answering-answered (some q) v a = a q
 
-picked : (t : Bool) (v w : Verdict) → Answered v → Answered w → Answered (cond t v w)
-picked true v w p q = p
-picked false v w p q = q
-
 module _ (c : Configuration) (right : rightConfiguration c ≡ true) (m : List ℕ) where
   judging-answered : (f : Option Bearer) → Answered (judging c f (bearerIn (readMessage m)))
   judging-answered f =
@@ -280,21 +268,21 @@ module _ (c : Configuration) (right : rightConfiguration c ≡ true) (m : List �
 
   taking-answered : (f : Option Bearer) (q : Stream) (o : Option Bearer) → Answered (taking c f q o)
   taking-answered f q none = tt
-  taking-answered f q (some d) = picked (rightAccepted c f q d) (agreed d) failed tt tt
+  taking-answered f q (some d) = either Answered (rightAccepted c f q d) (agreed d) failed tt tt
 
   hearing-answered : (k : Book) (h : Heard) → heard m ≡ h → Answered (hearing c k h)
   hearing-answered k hears.unreadable e = tt
-  hearing-answered k hears.otherRequest e = picked (ignores k) discarded (confusing c) tt (subst Answered (sym (confusing-is c right)) tt)
+  hearing-answered k hears.otherRequest e = either Answered (ignores k) discarded (confusing c) tt (subst Answered (sym (confusing-is c right)) tt)
   hearing-answered k (hears.request d) e =
-      picked (ignores k) discarded (judging c (settled k) d) tt
+      either Answered (ignores k) discarded (judging c (settled k) d) tt
       (subst (λ (o : Option Bearer). Answered (judging c (settled k) o)) (sym (request-names m d e)) (judging-answered (settled k)))
   hearing-answered k (hears.accepted d) e = answering-answered (awaited k) (λ q. taking c (settled k) q d) (λ q. taking-answered (settled k) q d)
   hearing-answered k hears.declined e = answering-answered (awaited k) (λ q. failed) (λ q. tt)
 
 pub message-answered : (self : Endpoint) (m xs ys : List ℕ) (r : Answer) (n : ℕ) → rightConfig (self .config) ≡ true → Did self (Event.message m) xs ys r → leastRoom ≤ length xs → r .reply ≡ Refused n → ⊥
 message-answered self m xs ys r n config did room e =
-    unrefused self _ xs ys r n (gave-ruled self (Event.message m) xs ys r _ did room refl)
-    (hearing-answered (configurationBy (self .config)) (usable self config) m (bookOf self) (heard m) refl) e
+    let g = gave-ruled self (Event.message m) xs ys r _ did room refl in
+    subst Answered (refused-is self _ xs ys r n g e) (hearing-answered (configurationBy (self .config)) (usable self config) m (bookOf self) (heard m) refl)
 
 -- such a command writes the octets of its Request, and opens it
 pub commanding-opens : (c : Configuration) → rightConfiguration c ≡ true → (entry payload ptime : ℕ) (q : Stream) → commanded c entry payload ptime ≡ some q

@@ -52,7 +52,7 @@ apart : (v w : Verdict) (n : ℕ) → v ≡ w → n ≤ which v → which w < n 
 apart v w n e p q = omega (arith, ap which e)
 
 -- what holds of both verdicts holds of the one that a test picks
-either : (P : Verdict → Type 0) (t : Bool) (v w : Verdict) → P v → P w → P (cond t v w)
+pub either : (P : Verdict → Type 0) (t : Bool) (v w : Verdict) → P v → P w → P (cond t v w)
 either P true v w p q = p
 either P false v w p q = q
 
