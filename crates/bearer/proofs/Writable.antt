@@ -23,7 +23,7 @@ use Rattle.ipbcp.specs.Writing.{request, accepted, confused, rejected, messageT
 use Rattle.ipbcp.proofs.WrittenLaws.{media-parts, attribute-parts}
 use Rattle.ipbcp.proofs.Lengths.{number-few, voice}
 use Rattle.ipbcp.proofs.ReadRange.{read-right, content-octets}
-use Rattle.configuration.specs.Configuration.{Codec, fixed, named, Configuration, between, allVisible, rightCodec, allRight, rightTimes, rightCodecs, rightConfiguration, entryIn, suits, nameOf, namedIn, noneOrInRange}
+use Rattle.configuration.specs.Configuration.{Codec, fixed, named, Configuration, between, allVisible, rightCodec, allRight, rightTimes, rightCodecs, rightGeneral, rightConfiguration, entryIn, suits, nameOf, namedIn, noneOrInRange}
 use Rattle.bearer.specs.Bearer.{Bearer}
 use Rattle.bearer.specs.Judging.{audio, rtpAvp, sameFamily, offered, commanded, unmoved, rightStream, rightRequest, nearest, restated, answerTo}
 
@@ -68,13 +68,17 @@ rtpmap-few payload t p l =
 
 -- ---- what a right configuration is
 module _ (c : Configuration) (h : rightConfiguration c ≡ true) where
-  pub own-unicast : isUnicast (c .own) ≡ true
+  general : rightGeneral c ≡ true
   unfolding rightConfiguration
-  own-unicast = both (isUnicast (c .own)) _ h .0
+  general = both (rightGeneral c) _ h .0
 
-  rest : (between 1 65535 (c .port) && (rightTimes (c .least) (c .most) && (between 1 30 (c .t1) && (between 1 30 (c .t2) && rightCodecs (c .codecs))))) ≡ true
-  unfolding rightConfiguration
-  rest = both (isUnicast (c .own)) _ h .1
+  pub own-unicast : isUnicast (c .own) ≡ true
+  unfolding rightGeneral
+  own-unicast = both (isUnicast (c .own)) _ general .0
+
+  rest : (between 1 65535 (c .port) && (rightTimes (c .least) (c .most) && (between 1 30 (c .t1) && between 1 30 (c .t2)))) ≡ true
+  unfolding rightGeneral
+  rest = both (isUnicast (c .own)) _ general .1
 
   own-port : (1 ≤ c .port) × (c .port ≤ 65535)
   own-port =
@@ -91,11 +95,10 @@ module _ (c : Configuration) (h : rightConfiguration c ≡ true) where
       (leb-true (c .least) (c .most) (d .0), leb-true (c .most) 255 (d .1))
 
   codecs-right : allRight (c .codecs) ≡ true
-  unfolding rightCodecs
+  unfolding rightConfiguration rightCodecs
   codecs-right =
-      let a = both (rightTimes (c .least) (c .most)) _ (both (between 1 65535 (c .port)) _ rest .1) .1 in
-      let b = both (between 1 30 (c .t2)) (rightCodecs (c .codecs)) (both (between 1 30 (c .t1)) _ a .1) .1 in
-      both (between 1 8 (length (c .codecs))) (allRight (c .codecs)) b .1
+      let a = both (rightGeneral c) (rightCodecs (c .codecs)) h .1 in
+      both (between 1 8 (length (c .codecs))) (allRight (c .codecs)) a .1
 
   -- a packet time that is moved into range is one
   nearest-most : (n : ℕ) → nearest c n ≤ 255

@@ -15,7 +15,7 @@ use Rattle.address.specs.Kinds.{isUnicast}
 use Rattle.configuration.specs.declared.Codec.{Codec as Place}
 use Rattle.configuration.specs.declared.Config.{Config}
 use Rattle.configuration.specs.declared.Checked.the-variants.{Usable, Refused}
-use Rattle.configuration.specs.Configuration.{Codec, between, allVisible, rightCodec, allRight, rightTimes, rightCodecs, rightConfiguration}
+use Rattle.configuration.specs.Configuration.{Codec, between, allVisible, rightCodec, allRight, rightTimes, rightCodecs, rightGeneral, rightConfiguration}
 use Rattle.configuration.specs.Meaning.{codecBy, codecsBy, configurationBy, formatInside, allInside, configInside, rightConfig, checked}
 use Rattle.configuration.proofs.EntryLaws.{length-codecs, count-few, drop-places, drop-codecs}
 
@@ -96,33 +96,41 @@ module _ (c : Config) where
 
 pub ruleset codecsRight = (codecs-none, codecs-many, codecs-start, codecs-all, codecs-not, codecs-more)
 
+-- ---- all but the codecs
+module _ (c : Config) where
+  pub general-port : c .port < 1 → false ≡ rightGeneral (configurationBy c)
+  unfolding rightGeneral configurationBy
+  general-port h = simp (lt-leb 1 (c .port) h, and-false)
+
+  pub general-own : isUnicast (c .own) ≡ false → false ≡ rightGeneral (configurationBy c)
+  unfolding rightGeneral configurationBy
+  general-own h = rw h
+
+  pub general-times : rightTimes (c .least) (c .most) ≡ false → false ≡ rightGeneral (configurationBy c)
+  unfolding rightGeneral configurationBy
+  general-times h = simp (h, and-false)
+
+  pub general-t1 : between 1 30 (c .t1) ≡ false → false ≡ rightGeneral (configurationBy c)
+  unfolding rightGeneral configurationBy
+  general-t1 h = simp (h, and-false)
+
+  pub general-t2 : (u : Bool) → u ≡ between 1 30 (c .t2) → 1 ≤ c .port → Fits w16 (c .port) → isUnicast (c .own) ≡ true → rightTimes (c .least) (c .most) ≡ true
+      → between 1 30 (c .t1) ≡ true → u ≡ rightGeneral (configurationBy c)
+  unfolding rightGeneral configurationBy
+  general-t2 u e p f o t t₁ = rw (e, le-leb 1 (c .port) p, le-leb (c .port) 65535 (omega arith), o, t, t₁)
+
+pub ruleset generals = (general-port, general-own, general-times, general-t1, general-t2)
+
 -- ---- the configuration
 module _ (c : Config) where
-  pub check-port : c .port < 1 → Refused 12 ≡ checked c
-  unfolding checked rightConfig rightConfiguration configurationBy
-  check-port h = simp (lt-leb 1 (c .port) h, and-false)
+  pub check-general : rightGeneral (configurationBy c) ≡ false → Refused 12 ≡ checked c
+  unfolding checked rightConfig rightConfiguration
+  check-general h = simp (h, and-false)
 
-  pub check-own : isUnicast (c .own) ≡ false → Refused 12 ≡ checked c
-  unfolding checked rightConfig rightConfiguration configurationBy
-  check-own h = simp (h, and-false)
-
-  pub check-times : rightTimes (c .least) (c .most) ≡ false → Refused 12 ≡ checked c
-  unfolding checked rightConfig rightConfiguration configurationBy
-  check-times h = simp (h, and-false)
-
-  pub check-t1 : between 1 30 (c .t1) ≡ false → Refused 12 ≡ checked c
-  unfolding checked rightConfig rightConfiguration configurationBy
-  check-t1 h = simp (h, and-false)
-
-  pub check-t2 : between 1 30 (c .t2) ≡ false → Refused 12 ≡ checked c
-  unfolding checked rightConfig rightConfiguration configurationBy
-  check-t2 h = simp (h, and-false)
-
-  module _ (p : 1 ≤ c .port) (f : Fits w16 (c .port)) (o : isUnicast (c .own) ≡ true) (t : rightTimes (c .least) (c .most) ≡ true)
-      (t₁ : between 1 30 (c .t1) ≡ true) (t₂ : between 1 30 (c .t2) ≡ true) where
+  module _ (g : rightGeneral (configurationBy c) ≡ true) where
     right-is : (configInside c && rightCodecs (codecsBy c)) ≡ rightConfig c
     unfolding rightConfig rightConfiguration configurationBy
-    right-is = rw (le-leb 1 (c .port) p, le-leb (c .port) 65535 (omega arith), o, t, t₁, t₂)
+    right-is = rw g
 
     pub check-codecs : (configInside c && rightCodecs (codecsBy c)) ≡ false → Refused 12 ≡ checked c
     unfolding checked
@@ -132,4 +140,4 @@ module _ (c : Config) where
     unfolding checked
     check-all h = rw (← right-is, h)
 
-pub ruleset checks = (check-port, check-own, check-times, check-t1, check-t2, check-codecs, check-all)
+pub ruleset checks = (check-general, check-codecs, check-all)

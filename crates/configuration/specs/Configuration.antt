@@ -59,13 +59,14 @@ mostCodecs = 8
 unfoldable pub rightCodecs : List Codec → Bool
 rightCodecs ks = between 1 mostCodecs (length ks) && allRight ks
 
--- the own address is that of one host, and the port is not 0
-unfoldable pub rightConfiguration : Configuration → Bool
-rightConfiguration c =
+-- all but the codecs: the own address is that of one host, and the port is not 0
+unfoldable pub rightGeneral : Configuration → Bool
+rightGeneral c =
     isUnicast (c .own)
-    && (between 1 65535 (c .port)
-    && (rightTimes (c .least) (c .most)
-    && (between 1 30 (c .t1) && (between 1 30 (c .t2) && rightCodecs (c .codecs)))))
+    && (between 1 65535 (c .port) && (rightTimes (c .least) (c .most) && (between 1 30 (c .t1) && between 1 30 (c .t2))))
+
+unfoldable pub rightConfiguration : Configuration → Bool
+rightConfiguration c = rightGeneral c && rightCodecs (c .codecs)
 
 -- ---- what a configuration says of codecs and packet times
 -- codec entry n, counted from 1

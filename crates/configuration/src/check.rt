@@ -2,8 +2,8 @@
 ghost use mathlib.Core.Path.{_≡_};
 ghost use mathlib.Core.Bool.{_&&_};
 ghost use lib.ListN.{length};
-ghost use Rattle.configuration.specs.Configuration.{between, allVisible, rightCodec, rightTimes, rightCodecs};
-ghost use Rattle.configuration.specs.Meaning.{codecBy, codecsBy, formatInside, configInside, checked};
+ghost use Rattle.configuration.specs.Configuration.{between, allVisible, rightCodec, rightTimes, rightCodecs, rightGeneral};
+ghost use Rattle.configuration.specs.Meaning.{codecBy, codecsBy, configurationBy, formatInside, configInside, checked};
 use crate::Checked;
 use crate::Codec;
 use crate::Config;
@@ -52,7 +52,7 @@ fn right_name(s: &[u8]) -> bool
 }
 
 // The entry can be used, and its name lies inside its array.
-fn right_codec(k: Codec) -> bool
+pub fn right_codec(k: Codec) -> bool
     ensures { λ r. ⌜ r ≡ (formatInside (k .format) && rightCodec (codecBy k)) ⌝ }
 {
     let format = k.format;
@@ -101,23 +101,31 @@ fn right_times(least: u8, most: u8) -> bool
     least <= most
 }
 
-// Whether the configuration can be used.
-pub fn check(c: Config) -> Checked
-    ensures { λ r. ⌜ r ≡ checked c ⌝ }
+// All but the codecs can be used.
+pub fn right_general(c: Config) -> bool
+    ensures { λ r. ⌜ r ≡ rightGeneral (configurationBy c) ⌝ }
 {
     let own = c.own;
     if c.port < 1 {
-        return Checked::Refused(12);
+        return false;
     }
     if address::is_unicast(own) {
         if right_times(c.least, c.most) {
             if is_between(1, 30, c.t1) {
-                if is_between(1, 30, c.t2) {
-                    if right_codecs(c) {
-                        return Checked::Usable;
-                    }
-                }
+                return is_between(1, 30, c.t2);
             }
+        }
+    }
+    false
+}
+
+// Whether the configuration can be used.
+pub fn check(c: Config) -> Checked
+    ensures { λ r. ⌜ r ≡ checked c ⌝ }
+{
+    if right_general(c) {
+        if right_codecs(c) {
+            return Checked::Usable;
         }
     }
     Checked::Refused(12)
