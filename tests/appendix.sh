@@ -3,7 +3,7 @@
 # what comes out with the answers beside them. PROGRAM is the built inspect, target/bin/inspect unless
 # given. Ends with status 1 where a line differs.
 set -u
-. "$(dirname "$0")/program.sh" "${1:-}"
+. "$(dirname "$0")/program.sh" inspect "${1:-}"
 cd "$(dirname "$0")" || exit 2
 diff <(cat appendix/*.out) <(./appendix-lines.sh | "$program") || exit 1
 echo "appendix: $(cat appendix/*.out | wc -l) lines agree"

@@ -3,7 +3,7 @@
 # each line behind its mode word, and compares what comes out with MODE.out. PROGRAM is the built inspect,
 # target/bin/inspect unless given; tests/model.py can be given too. Ends with status 1 where a line differs.
 set -u
-. "$(dirname "$0")/program.sh" "${1:-}"
+. "$(dirname "$0")/program.sh" inspect "${1:-}"
 cd "$(dirname "$0")/.." || exit 2
 got=$(mktemp)
 trap 'rm -f "$got"' EXIT

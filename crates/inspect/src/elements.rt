@@ -14,6 +14,7 @@ use bat::Verdict;
 use bat::framing;
 use bat_read::Examined;
 use bat_read::Listed;
+use notation::push_refused;
 use octets::Number;
 use octets::append;
 use octets::parts;
@@ -154,7 +155,7 @@ fn push_taken(
 fn push_data(data: &[u8], entries: u16, pass: bool, out: &mut [u8], at: usize) -> usize {
     let a = bat_read::judge_data(data, entries as usize, pass);
     match a {
-        DataAnswer::Refused(n) => print::refused(n, out, at),
+        DataAnswer::Refused(n) => push_refused(n, out, at),
         DataAnswer::Taken { count, outcome } => push_taken(data, count, outcome, pass, out, at),
     }
 }

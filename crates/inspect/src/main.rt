@@ -11,7 +11,9 @@ mod values;
 mod walk;
 
 use libc::STDIN_FILENO;
-use libc::STDOUT_FILENO;
+use line_output::Output;
+use line_output::flush;
+use line_output::make_room;
 
 // Room that is kept for a line of output, so that none is cut. The longest is that of 2,048 octets
 // which are 682 unknown elements: 35 octets for each and 6 more where its diagnostic is listed, under
@@ -23,28 +25,24 @@ struct State {
     // The line that is being gathered (`line_input::gather`).
     len: usize,
     over: bool,
-    // How much output waits.
-    at: usize,
+    output: Output,
     // Whether the input goes on.
     going: bool,
-    // Whether the output is taken.
-    taken: bool,
 }
 
 fn start() -> State {
     State {
         len: 0,
         over: false,
-        at: 0,
+        output: Output { at: 0, taken: true },
         going: true,
-        taken: true,
     }
 }
 
 // Appends the answer to the line that was gathered.
 fn push_step(line: &[u8], data: &mut [u8], room: &mut [u8], out: &mut [u8], state: State) -> usize {
     let len = state.len;
-    let at = state.at;
+    let at = state.output.at;
     if state.over {
         return print::bad_line(out, at);
     }
@@ -58,35 +56,9 @@ fn push_step(line: &[u8], data: &mut [u8], room: &mut [u8], out: &mut [u8], stat
 fn step(line: &[u8], data: &mut [u8], room: &mut [u8], out: &mut [u8], state: State) -> State {
     let mut st = state;
     let k = push_step(line, data, room, out, st);
-    st.at = octets::append::push_octet(10, out, k);
+    st.output.at = octets::append::push_octet(10, out, k);
     st.len = 0;
     st.over = false;
-    st
-}
-
-// Writes the waiting output.
-fn flush(out: &[u8], state: State) -> State {
-    let mut st = state;
-    let at = st.at;
-    st.at = 0;
-    if at <= out.len() {
-        st.taken = io::write_all(STDOUT_FILENO, &out[0..at]);
-    } else {
-        st.taken = false;
-    }
-    st
-}
-
-// Writes the waiting output where there may be no room for a line more.
-fn make_room(out: &[u8], state: State) -> State {
-    let st = state;
-    let at = st.at;
-    if out.len() < LINE {
-        return flush(out, st);
-    }
-    if out.len() - LINE < at {
-        return flush(out, st);
-    }
     st
 }
 
@@ -102,7 +74,7 @@ fn feed(
 ) -> State {
     let mut st = state;
     let mut i = 0;
-    while i < part.len() && st.taken {
+    while i < part.len() && st.output.taken {
         let g = line_input::gather(part, i, line, st.len, st.over);
         let next = g.next;
         if next <= i {
@@ -113,7 +85,7 @@ fn feed(
         st.over = g.over;
         if g.ended {
             st = step(line, data, room, out, st);
-            st = make_room(out, st);
+            st.output = make_room(out, st.output, LINE);
         }
     }
     st
@@ -136,8 +108,8 @@ fn turn(
     }
     let n = io::count(got, part);
     st = feed(&part[..n], line, data, room, out, st);
-    if st.taken {
-        return flush(out, st);
+    if st.output.taken {
+        st.output = flush(out, st.output);
     }
     st
 }
@@ -147,13 +119,13 @@ fn turn(
 fn run(part: &mut [u8], line: &mut [u8], data: &mut [u8], room: &mut [u8], out: &mut [u8]) {
     let mut st = start();
     let mut turns = u64::MAX;
-    while turns > 0 && st.going && st.taken {
+    while turns > 0 && st.going && st.output.taken {
         st = turn(part, line, data, room, out, st);
         turns -= 1;
     }
-    if st.taken && 0 < st.len {
+    if st.output.taken && 0 < st.len {
         st = step(line, data, room, out, st);
-        flush(out, st);
+        flush(out, st.output);
     }
 }
 

@@ -8,6 +8,8 @@ use ipbcp::Kind;
 use ipbcp::Message;
 use media::Stream;
 use media::Texts;
+use notation::push_refused;
+use notation::push_texts;
 use octets::Span;
 use octets::append;
 use octets::parts;
@@ -52,34 +54,10 @@ fn push_text(m: &[u8], sp: Span, out: &mut [u8], at: usize) -> usize {
     print::named(b" ", spans::text(m, sp), out, at)
 }
 
-// Appends, behind a separator, the text of sp in m, one of fmtp.
-fn push_fmtp(separator: u8, m: &[u8], sp: Span, out: &mut [u8], at: usize) -> usize {
-    let k = append::push_octet(separator, out, at);
-    let t = spans::text(m, sp);
-    if t.len() == 0 {
-        return append::push(b"empty", out, k);
-    }
-    print::octets(t, out, k)
-}
-
-// Appends a blank and the texts of fmtp with a comma between them, `-` where there is none.
-fn push_texts(m: &[u8], x: Texts, out: &mut [u8], at: usize) -> usize {
-    let n = x.count;
-    let first = x.first;
-    let second = x.second;
-    let third = x.third;
-    if n == 0 {
-        return append::push(b" -", out, at);
-    }
-    let k = push_fmtp(32, m, first, out, at);
-    if n == 1 {
-        return k;
-    }
-    let k2 = push_fmtp(44, m, second, out, k);
-    if n == 2 {
-        return k2;
-    }
-    push_fmtp(44, m, third, out, k2)
+// Appends a blank and the texts of fmtp.
+fn push_fmtp(m: &[u8], x: Texts, out: &mut [u8], at: usize) -> usize {
+    let k = append::push_octet(32, out, at);
+    push_texts(m, x, out, k)
 }
 
 // Appends the media line: port, media, transport, payload.
@@ -97,7 +75,7 @@ fn push_attributes(m: &[u8], s: Stream, out: &mut [u8], at: usize) -> usize {
     let rtpmap = s.rtpmap;
     let fmtp = s.fmtp;
     let k = push_text(m, rtpmap, out, at);
-    let k2 = push_texts(m, fmtp, out, k);
+    let k2 = push_fmtp(m, fmtp, out, k);
     push_number(s.ptime as u64, out, k2)
 }
 
@@ -113,7 +91,7 @@ fn push_described(m: &[u8], kind: Kind, a: Address, s: Stream, out: &mut [u8], a
 fn push_message(m: &[u8], out: &mut [u8], at: usize) -> usize {
     let x = ipbcp::read(m);
     match x {
-        Message::Refused(n) => print::refused(n, out, at),
+        Message::Refused(n) => push_refused(n, out, at),
         Message::Typed { version, kind } => push_head(version, kind, out, at),
         Message::Described {
             kind,

@@ -10,6 +10,8 @@ use bat::Framed;
 use bat::Reading;
 use bat::Value;
 use bat::framing;
+use notation::push_octets;
+use notation::push_refused;
 use octets::Number;
 use octets::Put;
 use octets::append;
@@ -26,12 +28,12 @@ fn push_written(
     at: usize,
 ) -> usize {
     if 255 < compatibility {
-        return print::refused(5, out, at);
+        return push_refused(5, out, at);
     }
     let p = bat_write::write_element(v, s, compatibility as u8, room);
     match p {
-        Put::Octets(n) => print::octets(spans::up_to(room, n), out, at),
-        Put::Refused(n) => print::refused(n, out, at),
+        Put::Octets(n) => push_octets(spans::up_to(room, n), out, at),
+        Put::Refused(n) => push_refused(n, out, at),
     }
 }
 
@@ -56,11 +58,11 @@ fn push_element(
 fn push_data(data: &[u8], compatibility: u16, room: &mut [u8], out: &mut [u8], at: usize) -> usize {
     let c = framing::count(data, 1);
     if let Counted::Refused(n) = c {
-        return print::refused(n, out, at);
+        return push_refused(n, out, at);
     }
     let x = framing::first_element(data);
     let Framed::Whole(f) = x else {
-        return print::refused(2, out, at);
+        return push_refused(2, out, at);
     };
     push_element(data, f, compatibility, room, out, at)
 }

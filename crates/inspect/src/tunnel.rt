@@ -3,6 +3,7 @@ use crate::input;
 use crate::input::Unpacked;
 use crate::print;
 use bctp::Packet;
+use notation::push_refused;
 use octets::Number;
 use octets::append;
 use octets::parts;
@@ -12,7 +13,7 @@ use octets::spans;
 fn push_packet(packet: &[u8], room: &mut [u8], out: &mut [u8], at: usize) -> usize {
     let p = bctp::open(packet, room);
     match p {
-        Packet::Refused(n) => print::refused(n, out, at),
+        Packet::Refused(n) => push_refused(n, out, at),
         Packet::Notice => append::push(b"notice", out, at),
         Packet::Reply => print::named(b"reply ", spans::up_to(room, 2), out, at),
         Packet::Message => print::named(b"message ", spans::after(packet, 2), out, at),

@@ -33,7 +33,7 @@ fn push_octets(name: &[u8], s: &[u8], sp: Span, out: &mut [u8], at: usize) -> us
 // Appends a single codec: the organisation, and the octets behind it.
 fn push_codec(organisation: u8, information: &[u8], out: &mut [u8], at: usize) -> usize {
     let k = append::push_number_then(organisation as u64, 46, out, at);
-    print::octets(information, out, k)
+    notation::push_octets(information, out, k)
 }
 
 fn push_single(s: &[u8], c: Codec, out: &mut [u8], at: usize) -> usize {

@@ -1,0 +1,43 @@
+// Output that waits at the front of a lent buffer until it is written.
+ghost use mathlib.Core.Path.{_≡_};
+ghost use Prim.Native.Nat.{_-_, _≤_};
+ghost use lib.ListN.{length};
+use libc::STDOUT_FILENO;
+
+pub struct Output {
+    // How many octets wait.
+    pub at: usize,
+    // Whether all that was written has been taken.
+    pub taken: bool,
+}
+
+// Writes what waits.
+pub fn flush(out: &[u8], output: Output) -> Output
+    ensures { λ r. ⌜ r .at ≡ 0 ⌝ }
+{
+    let at = output.at;
+    if at <= out.len() {
+        return Output {
+            at: 0,
+            taken: io::write_all(STDOUT_FILENO, &out[0..at]),
+        };
+    }
+    Output {
+        at: 0,
+        taken: false,
+    }
+}
+
+// Writes what waits where fewer than `least` octets are free behind it.
+pub fn make_room(out: &[u8], output: Output, least: usize) -> Output
+    ensures { λ r. ⌜ r .at ≤ length (now (out .entry)) - least ⌝ }
+{
+    let at = output.at;
+    if out.len() < least {
+        return flush(out, output);
+    }
+    if out.len() - least < at {
+        return flush(out, output);
+    }
+    output
+}

@@ -1,0 +1,166 @@
+// How the programs show octets, texts and refusals, and how they are given the length of a buffer.
+ghost use mathlib.Core.Path.{_≡_};
+ghost use mathlib.Core.List.{_∷_, _++_};
+ghost use Rattle.octets.specs.Append.{Appends};
+ghost use Rattle.octets.specs.Spans.{textOf};
+ghost use Rattle.media.specs.Meaning.{textsBy};
+ghost use Rattle.notation.specs.Notation.{octetsShown, textShown, textsShown, refusedShown, digitIn, ReadsOctets, lengthIn, largeIn};
+use media::Texts;
+use octets::Number;
+use octets::Span;
+use octets::append::push;
+use octets::append::push_number;
+use octets::append::push_octet;
+use octets::decimal::read_number;
+use octets::hex::push_hex;
+use octets::spans::text;
+use octets::words::digit_run;
+
+// Appends octets as digits, none as `-`.
+pub fn push_octets(s: &[u8], out: &mut [u8], at: usize) -> usize
+    ensures { λ r. ⌜ Appends (now (out .entry)) at (octetsShown (now (s .entry))) r (now (out .exit)) ⌝ }
+{
+    if s.len() == 0 {
+        return push_octet(45, out, at);
+    }
+    push_hex(s, out, at)
+}
+
+// Appends a text as digits, an empty one as `empty`.
+fn push_text(s: &[u8], out: &mut [u8], at: usize) -> usize
+    ensures { λ r. ⌜ Appends (now (out .entry)) at (textShown (now (s .entry))) r (now (out .exit)) ⌝ }
+{
+    if s.len() == 0 {
+        return push(b"empty", out, at);
+    }
+    push_hex(s, out, at)
+}
+
+// Appends the text of sp in m.
+fn push_span(m: &[u8], sp: Span, out: &mut [u8], at: usize) -> usize
+    ensures { λ r. ⌜ Appends (now (out .entry)) at (textShown (textOf (now (m .entry)) sp)) r (now (out .exit)) ⌝ }
+{
+    push_text(text(m, sp), out, at)
+}
+
+// Appends a comma and the text of sp in m.
+fn push_next(m: &[u8], sp: Span, out: &mut [u8], at: usize) -> usize
+    ensures { λ r. ⌜ Appends (now (out .entry)) at (44 ∷ textShown (textOf (now (m .entry)) sp)) r (now (out .exit)) ⌝ }
+{
+    let k = push_octet(44, out, at);
+    push_span(m, sp, out, k)
+}
+
+// Appends two texts so.
+fn push_both(m: &[u8], a: Span, b: Span, out: &mut [u8], at: usize) -> usize
+    ensures { λ r. ⌜ Appends (now (out .entry)) at ((44 ∷ textShown (textOf (now (m .entry)) a)) ++ (44 ∷ textShown (textOf (now (m .entry)) b))) r (now (out .exit)) ⌝ }
+{
+    let k = push_next(m, a, out, at);
+    push_next(m, b, out, k)
+}
+
+// Appends the texts of x in m with a comma between them, `-` where there is none.
+pub fn push_texts(m: &[u8], x: Texts, out: &mut [u8], at: usize) -> usize
+    ensures { λ r. ⌜ Appends (now (out .entry)) at (textsShown (textsBy (now (m .entry)) x)) r (now (out .exit)) ⌝ }
+{
+    let n = x.count;
+    let first = x.first;
+    let second = x.second;
+    let third = x.third;
+    if n == 0 {
+        return push_octet(45, out, at);
+    }
+    let k = push_span(m, first, out, at);
+    if n == 1 {
+        return k;
+    }
+    if n == 2 {
+        return push_next(m, second, out, k);
+    }
+    push_both(m, second, third, out, k)
+}
+
+// Appends a refusal by number n.
+pub fn push_refused(n: u8, out: &mut [u8], at: usize) -> usize
+    ensures { λ r. ⌜ Appends (now (out .entry)) at (refusedShown n) r (now (out .exit)) ⌝ }
+{
+    let k = push(b"refused-", out, at);
+    push_number(n as u64, out, k)
+}
+
+// The value of a digit, of either case; 16 for an octet that is none.
+fn digit(b: u8) -> u8
+    ensures { λ r. ⌜ r ≡ digitIn b ⌝ }
+{
+    if b < 48 {
+        return 16;
+    }
+    if b <= 57 {
+        return b - 48;
+    }
+    if b < 65 {
+        return 16;
+    }
+    if b <= 70 {
+        return b - 55;
+    }
+    if b < 97 {
+        return 16;
+    }
+    if b <= 102 {
+        return b - 87;
+    }
+    16
+}
+
+// Puts the octets that the pairs of digits in t stand for at the front of dst, up to the first pair that is none or finds no
+// room. Says whether t is such pairs alone and all found room.
+pub fn read_octets(t: &[u8], dst: &mut [u8]) -> bool
+    ensures { λ r. ⌜ ReadsOctets (now (t .entry)) (now (dst .entry)) r (now (dst .exit)) ⌝ }
+{
+    let n = t.len() / 2;
+    let mut j = 0;
+    while j < n {
+        if dst.len() <= j {
+            return false;
+        }
+        let a = digit(t[j + j]);
+        if 15 < a {
+            return false;
+        }
+        let b = digit(t[j + j + 1]);
+        if 15 < b {
+            return false;
+        }
+        dst[j] = a * 16 + b;
+        j += 1;
+    }
+    t.len() % 2 == 0
+}
+
+// The length in a text that is no number up to 65535.
+fn large(t: &[u8]) -> Number
+    ensures { λ r. ⌜ r ≡ largeIn (now (t .entry)) ⌝ }
+{
+    if t.len() < 2 {
+        return Number::Bad;
+    }
+    if t[0] == 48 {
+        return Number::Bad;
+    }
+    if digit_run(t) {
+        return Number::Value(65535);
+    }
+    Number::Bad
+}
+
+// The length of a buffer that t names. One above 65535 counts as 65535: nothing that the card writes needs more.
+pub fn read_length(t: &[u8]) -> Number
+    ensures { λ r. ⌜ r ≡ lengthIn (now (t .entry)) ⌝ }
+{
+    let x = read_number(t);
+    match x {
+        Number::Value(_) => x,
+        Number::Bad => large(t),
+    }
+}

@@ -1,0 +1,80 @@
+-- What the structs of this crate stand for, and what a step of the code does.
+use Prim.Native.Nat.{ℕ, _/_, _≤_}
+use mathlib.Core.Path.{_≡_}
+use mathlib.Core.List.{List, _++_}
+use mathlib.Core.Bool.{Bool}
+use mathlib.Core.Option.{Option, none, some}
+use lib.ListN.{length, take, drop}
+use Rattle.octets.specs.Append.{Appends}
+use Rattle.book.specs.Book.{idle}
+use Rattle.book.specs.States.{holdsAt}
+use Rattle.configuration.specs.declared.Config.{Config}
+use Rattle.configuration.specs.Configuration.{Configuration}
+use Rattle.configuration.specs.Meaning.{configurationBy}
+use Rattle.bearer.specs.Bearer.{Bearer}
+use Rattle.bearer.specs.Meaning.{bearerBy, heldIf}
+use Rattle.endpoint.specs.declared.Endpoint.{Endpoint}
+use Rattle.endpoint.specs.declared.Answer.{Answer}
+use Rattle.endpoint.specs.declared.Reply.{Reply}
+use Rattle.endpoint.specs.declared.Reply.the-variants.{Refused, Done}
+use Rattle.endpoint.specs.Rule.{Event}
+use Rattle.endpoint.specs.Step.{bookOf, Did}
+use Rattle.trace.specs.declared.Phase.{Phase}
+use Rattle.trace.specs.declared.Phase.the-variants.{Start, Configuring, Running, Stopped}
+use Rattle.trace.specs.declared.Session.{Session}
+use Rattle.trace.specs.declared.Stepped.{Stepped}
+use Rattle.trace.specs.Trace.{Trace, start, configuring, running, stopped, Step, handled, going}
+
+unfoldable pub traceIn : Phase → ℕ → Endpoint → Trace
+traceIn Start n e = start
+traceIn Configuring n e = configuring (configurationBy (e .config))
+traceIn Running n e = running (configurationBy (e .config)) (bookOf e) n
+traceIn Stopped n e = stopped
+
+abbrev pub traceBy : Session → Trace
+traceBy s = traceIn (s .phase) (s .number) (s .endpoint)
+
+-- The step x: r has the trace that it leaves, what it prints is appended to out at `at`, and the lent buffer holds what it leaves.
+pub record Does (x : Step) (room′ out out′ : List ℕ) (at : ℕ) (r : Stepped) : Type 0 where
+  pub session : traceBy (r .session) ≡ x .next
+  pub printed : Appends out at (x .printed) (r .at) out′
+  pub lent : room′ ≡ x .lent
+
+-- ---- for the private functions
+-- what a line of the configuration does, whatever the buffer: it goes on with c, or is refused
+abbrev pub Goes : Option Configuration → List ℕ → List ℕ → ℕ → Stepped → Type 0
+Goes c out out′ at r = (room : List ℕ) → Does (going room c) room out out′ at r
+
+-- nothing is printed
+abbrev pub Keeps : Configuration → ℕ → Stepped → Type 0
+Keeps c at r = (out : List ℕ) → Goes (some c) out out at r
+
+-- an endpoint with this configuration, to which nothing has happened
+pub record Fresh (c : Config) (e : Endpoint) : Type 0 where
+  pub config : e .config ≡ c
+  pub book : bookOf e ≡ idle
+
+-- a line that is no event, whatever the buffer
+abbrev pub Passes : Bool → Endpoint → ℕ → List ℕ → List ℕ → ℕ → Stepped → Type 0
+Passes detailed e n out out′ at r =
+    (room : List ℕ) (w : ℕ) → Does (handled detailed (configurationBy (e .config)) (bookOf e) n none room w) room out out′ at r
+
+-- how many octets a reply says were written
+unfoldable pub writtenBy : Reply → ℕ
+writtenBy (Refused n) = 0
+writtenBy (Done s n w d) = w
+
+-- the bearer in force
+abbrev pub forceBy : Endpoint → Option Bearer
+forceBy e = heldIf (holdsAt (e .state)) (bearerBy (e .bearer))
+
+-- The event e was given to self with the first w octets of a buffer: these then are `front`, and the others stay.
+pub record DidFront (self : Endpoint) (e : Event) (w : ℕ) (room room′ : List ℕ) (r : Answer) : Type 0 where
+  pub front : List ℕ
+  pub did : Did self e (take w room) front r
+  pub whole : room′ ≡ front ++ drop w room
+
+-- the octets of a message whose digits are t find room, and so do w octets in the buffer
+pub record Hearable (t room : List ℕ) (w : ℕ) : Type 0 where
+  pub octets : length t / 2 ≤ 600
+  pub room : w ≤ length room

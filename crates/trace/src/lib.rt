@@ -1,0 +1,87 @@
+// A trace, line by line: what is printed for a line, and what it leaves.
+mod configuring;
+mod events;
+
+ghost use mathlib.Core.List.{[]};
+ghost use mathlib.Core.Path.{_≡_};
+ghost use Rattle.octets.specs.Append.{Appends};
+ghost use Rattle.trace.specs.Trace.{start, stepped, ending};
+ghost use Rattle.trace.specs.Meaning.{traceBy, Does};
+use endpoint::Endpoint;
+use trace_read::configure::read_general;
+use trace_write::lines::push_refused_line;
+
+// How far a trace has come.
+pub enum Phase {
+    // No line has come.
+    Start,
+    // The endpoint's configuration has those codecs that have come.
+    Configuring,
+    Running,
+    // The configuration can't be used, and nothing more is printed.
+    Stopped,
+}
+
+// What the lines so far have left: the endpoint, and the number of its last event.
+pub struct Session {
+    pub phase: Phase,
+    pub number: u64,
+    pub endpoint: Endpoint,
+}
+
+// A session after a line, and where the next octet of output goes.
+pub struct Stepped {
+    pub session: Session,
+    pub at: usize,
+}
+
+impl Session {
+    // No line has come.
+    pub fn new() -> Session
+        ensures { λ r. ⌜ traceBy r ≡ start ⌝ }
+    {
+        let read = read_general(b"");
+        let opening = Endpoint::new(read.config);
+        let endpoint = opening.endpoint;
+        Session {
+            phase: Phase::Start,
+            number: 0,
+            endpoint,
+        }
+    }
+
+    // Appends to the `at` octets in out what is printed for the line, which stands without its LF; `whole` says whether LF ended it
+    // and all of it is there. Of room as many octets are lent to the line's event as it asks for.
+    pub fn step(
+        self,
+        detailed: bool,
+        line: &[u8],
+        whole: bool,
+        room: &mut [u8],
+        out: &mut [u8],
+        at: usize,
+    ) -> Stepped
+        ensures { λ r. ⌜ Does (stepped detailed (traceBy self) (record { text = now (line .entry); whole = whole }) (now (room .entry))) (now (room .exit)) (now (out .entry)) (now (out .exit)) at r ⌝ }
+    {
+        let phase = self.phase;
+        match phase {
+            Phase::Start => self.open(line, whole, out, at),
+            Phase::Configuring => self.configure(detailed, line, whole, room, out, at),
+            Phase::Running => self.run(detailed, line, whole, room, out, at),
+            Phase::Stopped => Stepped { session: self, at },
+        }
+    }
+
+    // Appends what is printed at the end of the input.
+    pub fn finish(self, out: &mut [u8], at: usize) -> usize
+        ensures { λ r. ⌜ Appends (now (out .entry)) at (ending (traceBy self)) r (now (out .exit)) ⌝ }
+    {
+        let phase = self.phase;
+        match phase {
+            Phase::Start => push_refused_line(out, at),
+            Phase::Configuring => self.close(out, at),
+            Phase::Running => at,
+            Phase::Stopped => at,
+        }
+    }
+}

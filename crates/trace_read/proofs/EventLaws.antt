@@ -1,0 +1,233 @@
+-- Laws of the event that a line names: the first field and how many there are decide, and a message's digits hold no tab.
+-- Assumes nothing.
+use Prim.Native.Nat.{ℕ, _%_, _≤_, _<_}
+use mathlib.Core.Path.{_≡_, refl, sym, _∙_}
+use mathlib.Core.List.{List, [], _∷_}
+use mathlib.Core.Bool.{Bool, true, false, _&&_, and-eq-true-iff}
+use mathlib.Core.Option.{none, some}
+use lib.ListN.{length, drop}
+use lib.Dec.{eqb}
+use native.Mathlib.Omega.{arith}
+use borrow.Author.Tests.{lt-ltb, le-ltb, eq-eqb, ne-eqb, eqb-true}
+use Rattle.octets.specs.declared.Number.{Number}
+use Rattle.octets.specs.declared.Number.the-variants.{Value, Bad}
+use Rattle.octets.specs.Decimal.{readNumber, onNumber}
+use Rattle.octets.specs.Hex.{isHexDigit, allHex, isHex}
+use Rattle.octets.specs.Split.{has, before, onFirst, splitOn, partOf, separatorsOf}
+use Rattle.octets.specs.Words.{begins, same}
+use Rattle.octets.proofs.CaseLaws.{by-eq, by-bool}
+use Rattle.octets.proofs.SplitLaws.{split-some, split-last, split-dot, has-before, has-not}
+use Rattle.endpoint.specs.declared.Call.the-variants.{SetUp, Change, Release, T1, T2}
+use Rattle.endpoint.specs.Rule.{Event, setUp, change}
+use Rattle.trace_read.specs.declared.Asked.{Asked}
+use Rattle.trace_read.specs.declared.Asked.the-variants.{Event as Named, Digits, Nothing}
+use Rattle.trace_read.specs.declared.events.Three.{Three}
+use Rattle.trace_read.specs.declared.events.Three.the-variants.{Numbers, Wrong}
+use Rattle.trace_read.specs.Events.{bareOf, messageOf, numbersOf, commandOf, eventOf, eventIn}
+use Rattle.trace_read.specs.Meaning.{messageBy, askedBy}
+use Rattle.trace_read.specs.Steps.{threeOf}
+use Rattle.trace_read.proofs.FieldLaws.{fields-are}
+
+-- no test is both
+never : {X : Type 0} → true ≡ false → X
+never e = let z : _≡_ {A = ℕ} 0 1 = cc in absurd (omega arith)
+
+-- ---- a command's numbers
+onThree : {X : Type 0} → Three → (ℕ → ℕ → ℕ → X) → X → X
+onThree (Numbers a b c) go bad = go a b c
+onThree Wrong go bad = bad
+
+three-is : (x y z : Number) (f : ℕ → ℕ → ℕ → Event)
+    → onNumber x (λ a. onNumber y (λ b. onNumber z (λ c. some (f a b c)) none) none) none
+    ≡ onThree (onNumber x (λ a. onNumber y (λ b. onNumber z (λ c. Numbers a b c) Wrong) Wrong) Wrong) (λ a b c. some (f a b c)) none
+unfolding onNumber onThree
+three-is (Value a) (Value b) (Value c) f = refl
+three-is (Value a) (Value b) Bad f = refl
+three-is (Value a) Bad z f = refl
+three-is Bad y z f = refl
+
+module _ (m : List ℕ) (ps : List (List ℕ)) (y : Three) (e : y ≡ threeOf ps) where
+  numbers-are : (f : ℕ → ℕ → ℕ → Event) → numbersOf f ps ≡ onThree y (λ a b c. some (f a b c)) none
+  unfolding numbersOf threeOf
+  numbers-are f = three-is (readNumber (partOf 1 ps)) (readNumber (partOf 2 ps)) (readNumber (partOf 3 ps)) f ∙ rw e
+
+  pub set-up-is : (a b c : ℕ) → y ≡ Numbers a b c → askedBy m (Named (SetUp a b c)) ≡ numbersOf setUp ps
+  unfolding askedBy onThree
+  set-up-is a b c q = rw (numbers-are setUp, q)
+
+  pub set-up-isnt : y ≡ Wrong → askedBy m Nothing ≡ numbersOf setUp ps
+  unfolding askedBy onThree
+  set-up-isnt q = rw (numbers-are setUp, q)
+
+  pub change-is : (a b c : ℕ) → y ≡ Numbers a b c → askedBy m (Named (Change a b c)) ≡ numbersOf change ps
+  unfolding askedBy onThree
+  change-is a b c q = rw (numbers-are change, q)
+
+  pub change-isnt : y ≡ Wrong → askedBy m Nothing ≡ numbersOf change ps
+  unfolding askedBy onThree
+  change-isnt q = rw (numbers-are change, q)
+
+pub ruleset commands = (set-up-is, set-up-isnt, change-is, change-isnt)
+
+-- ---- the word, which is p
+module _ (m p : List ℕ) (ps : List (List ℕ)) (e : p ≡ partOf 0 ps) where
+  module _ (t : Bool) (r : t ≡ same (85 ∷ []) p) where
+    pub command-set-up : (x : Asked) → t ≡ true → askedBy m x ≡ numbersOf setUp ps → askedBy m x ≡ commandOf ps
+    unfolding commandOf
+    command-set-up x q h = rw (← e, ← r, q) h
+
+    module _ (u : Bool) (k : u ≡ same (67 ∷ []) p) (q : t ≡ false) where
+      pub command-change : (x : Asked) → u ≡ true → askedBy m x ≡ numbersOf change ps → askedBy m x ≡ commandOf ps
+      unfolding commandOf
+      command-change x v h = rw (← e, ← r, q, ← k, v) h
+
+      pub command-none : u ≡ false → askedBy m Nothing ≡ commandOf ps
+      unfolding commandOf askedBy
+      command-none v = rw (← e, ← r, q, ← k, v)
+
+  module _ (t : Bool) (r : t ≡ same (88 ∷ []) p) where
+    pub bare-release : t ≡ true → askedBy m (Named Release) ≡ bareOf ps
+    unfolding bareOf askedBy
+    bare-release q = rw (← e, ← r, q)
+
+    module _ (u : Bool) (k : u ≡ same (84 ∷ 49 ∷ []) p) (q : t ≡ false) where
+      pub bare-t1 : u ≡ true → askedBy m (Named T1) ≡ bareOf ps
+      unfolding bareOf askedBy
+      bare-t1 v = rw (← e, ← r, q, ← k, v)
+
+      module _ (w : Bool) (l : w ≡ same (84 ∷ 50 ∷ []) p) (v : u ≡ false) where
+        pub bare-t2 : w ≡ true → askedBy m (Named T2) ≡ bareOf ps
+        unfolding bareOf askedBy
+        bare-t2 o = rw (← e, ← r, q, ← k, v, ← l, o)
+
+        pub bare-none : w ≡ false → askedBy m Nothing ≡ bareOf ps
+        unfolding bareOf askedBy
+        bare-none o = rw (← e, ← r, q, ← k, v, ← l, o)
+
+pub ruleset words = (command-set-up, command-change, command-none, bare-release, bare-t1, bare-t2, bare-none)
+
+-- ---- a line that begins with the word of messages and a tab
+message-fields : (s : List ℕ) → begins (77 ∷ 9 ∷ []) s ≡ true → splitOn 9 s ≡ (77 ∷ []) ∷ splitOn 9 (drop 2 s)
+unfolding begins splitOn onFirst
+message-fields [] h = never (sym h)
+message-fields (a ∷ []) h = never (sym (and-eq-true-iff (eqb a 77) false .0 h .1))
+message-fields (a ∷ b ∷ s) h =
+    let (p, q) = and-eq-true-iff (eqb a 77) (eqb b 9 && true) .0 h in
+    let x : a ≡ 77 = eqb-true a 77 p in
+    let y : b ≡ 9 = eqb-true b 9 (and-eq-true-iff (eqb b 9) true .0 q .0) in
+    rw (x, y)
+
+-- digits hold no tab
+hex-whole : (t : List ℕ) → allHex t ≡ true → splitOn 9 t ≡ t ∷ []
+unfolding allHex isHexDigit splitOn onFirst
+hex-whole [] h = refl
+hex-whole (b ∷ bs) h =
+    let (p, q) = and-eq-true-iff (isHexDigit b) (allHex bs) .0 h in
+    by-eq b 9 _
+    (λ e. let z : isHexDigit 9 ≡ true = rw e at p in never (sym z))
+    (λ e. rw (ne-eqb b 9 e, hex-whole bs q))
+
+message-one : (t : List ℕ) → isHex t ≡ true → eventOf ((77 ∷ []) ∷ t ∷ []) ≡ messageBy t
+unfolding eventOf messageOf same begins partOf messageBy
+message-one t h = rw h
+
+message-bad : (t : List ℕ) → isHex t ≡ false → eventOf ((77 ∷ []) ∷ t ∷ []) ≡ none
+unfolding eventOf messageOf same begins partOf
+message-bad t h = rw h
+
+message-none : (t : List ℕ) → isHex t ≡ false → messageBy t ≡ none
+unfolding messageBy
+message-none t h = rw h
+
+-- more fields than any event has
+event-many : (ps : List (List ℕ)) → 4 < length ps → eventOf ps ≡ none
+unfolding eventOf
+event-many ps h =
+    rw (ne-eqb (length ps) 1 (λ e. omega arith), ne-eqb (length ps) 2 (λ e. omega arith), ne-eqb (length ps) 4 (λ e. omega arith))
+
+-- three fields or more, the word that of messages
+message-many : (t : List ℕ) (ps : List (List ℕ)) → 0 < length ps → eventOf ((77 ∷ []) ∷ t ∷ ps) ≡ none
+unfolding eventOf commandOf same begins partOf
+message-many t [] h = absurd (omega arith)
+message-many t (a ∷ []) h = refl
+message-many t (a ∷ b ∷ []) h = refl
+message-many t (a ∷ b ∷ c ∷ ps) h = event-many ((77 ∷ []) ∷ t ∷ a ∷ b ∷ c ∷ ps) (omega arith)
+
+module _ (s : List ℕ) (b : begins (77 ∷ 9 ∷ []) s ≡ true) where
+  message-yes : isHex (drop 2 s) ≡ true → messageBy (drop 2 s) ≡ eventOf (splitOn 9 s)
+  unfolding isHex
+  message-yes h =
+      let p = drop 2 s in
+      let a : allHex p ≡ true = and-eq-true-iff (eqb (length p % 2) 0) (allHex p) .0 h .1 in
+      rw (message-fields s b, hex-whole p a) (sym (message-one p h))
+
+  message-no : isHex (drop 2 s) ≡ false → messageBy (drop 2 s) ≡ eventOf (splitOn 9 s)
+  message-no h =
+      let p = drop 2 s in
+      rw (message-fields s b, message-none p h)
+      (by-bool (has 9 p) _
+      (λ k. let l = has-before 9 p k in rw (split-dot 9 p l) (sym (message-many (before 9 p) _ (split-some 9 _))))
+      (λ k. let w = has-not 9 p k in
+      let l : length p ≤ length (before 9 p) = rw w (omega arith) in
+      rw (split-last 9 p l, w) (sym (message-bad p h))))
+
+  message-is : messageBy (drop 2 s) ≡ eventOf (splitOn 9 s)
+  message-is = by-bool (isHex (drop 2 s)) _ message-yes message-no
+
+-- ---- any other line
+-- with two fields the first is another word
+other-word : (s : List ℕ) → begins (77 ∷ 9 ∷ []) s ≡ false → length (splitOn 9 s) ≡ 2 → same (77 ∷ []) (partOf 0 (splitOn 9 s)) ≡ false
+unfolding begins same partOf splitOn onFirst
+other-word [] b h = absurd (omega arith)
+other-word (x ∷ []) b h = by-eq x 9 _ (λ e. rw (eq-eqb x 9 e)) (λ e. let z : 1 ≡ 2 = rw (ne-eqb x 9 e) at h in absurd (omega arith))
+other-word (x ∷ y ∷ s) b h =
+    by-eq x 9 _
+    (λ e. rw (eq-eqb x 9 e))
+    (λ e. by-eq y 9 _
+    (λ f. by-eq x 77 _
+    (λ g. let z : true ≡ false = rw (g, f) at b in never z)
+    (λ g. rw (ne-eqb x 9 e, eq-eqb y 9 f, ne-eqb x 77 g)))
+    (λ f. rw (ne-eqb x 9 e, ne-eqb y 9 f) (long-word x y (splitOn 9 s))))
+  where
+    long-word : (x y : ℕ) (ps : List (List ℕ)) → same (77 ∷ []) (partOf 0 (onFirst x (onFirst y ps))) ≡ false
+    long-word x y [] = refl
+    long-word x y (p ∷ ps) = rw (ne-eqb (length (x ∷ y ∷ p)) 1 (λ e. omega arith))
+
+module _ (s : List ℕ) (n : ℕ) (c : n ≡ separatorsOf 9 s) where
+  module _ (m : List ℕ) where
+    pub other-bare : (x : Asked) → n ≡ 0 → askedBy m x ≡ bareOf (splitOn 9 s) → askedBy m x ≡ eventOf (splitOn 9 s)
+    unfolding eventOf
+    other-bare x h r = rw (eq-eqb (length (splitOn 9 s)) 1 (omega (arith, fields-are s n c))) r
+
+    pub other-command : (x : Asked) → n ≡ 3 → askedBy m x ≡ commandOf (splitOn 9 s) → askedBy m x ≡ eventOf (splitOn 9 s)
+    unfolding eventOf
+    other-command x h r =
+        let l = fields-are s n c in
+        rw (ne-eqb (length (splitOn 9 s)) 1 (λ e. omega arith), ne-eqb (length (splitOn 9 s)) 2 (λ e. omega arith), eq-eqb (length (splitOn 9 s)) 4 (omega arith)) r
+
+    pub other-none : begins (77 ∷ 9 ∷ []) s ≡ false → (n ≡ 0 → ⊥) → (n ≡ 3 → ⊥) → askedBy m Nothing ≡ eventOf (splitOn 9 s)
+    unfolding eventOf messageOf askedBy
+    other-none b h k =
+        let l = fields-are s n c in
+        rw (ne-eqb (length (splitOn 9 s)) 1 (λ e. h (omega arith)), ne-eqb (length (splitOn 9 s)) 4 (λ e. k (omega arith)))
+        (by-eq (length (splitOn 9 s)) 2 _
+        (λ e. rw (eq-eqb (length (splitOn 9 s)) 2 e, other-word s b e))
+        (λ e. rw (ne-eqb (length (splitOn 9 s)) 2 e)))
+
+pub ruleset others = (other-bare, other-command, other-none)
+
+-- ---- the line
+module _ (s m : List ℕ) where
+  pub event-long : 1200 ≤ length s → askedBy m Nothing ≡ eventIn s
+  unfolding eventIn askedBy
+  event-long h = rw (le-ltb (length s) 1200 h)
+
+  pub event-is : (x : Asked) → length s < 1200 → askedBy m x ≡ eventOf (splitOn 9 s) → askedBy m x ≡ eventIn s
+  unfolding eventIn
+  event-is x h r = rw (lt-ltb (length s) 1200 h) r
+
+pub event-digits : (s : List ℕ) (t : Bool) → t ≡ begins (77 ∷ 9 ∷ []) s → t ≡ true → length s < 1200 → askedBy s Digits ≡ eventIn s
+unfolding eventIn askedBy
+event-digits s t e q h = rw (lt-ltb (length s) 1200 h) (message-is s (sym e ∙ q))
+
+pub ruleset lines = (event-long, event-is, event-digits)

@@ -1,0 +1,15 @@
+-- `configure::wrong` meets its contract. What is not right stands for nothing.
+-- Assumes nothing.
+use borrow.Author.Needs.{needs}
+use Rattle.trace_read.proofs.ConfigureLaws.{wrong-is}
+use Rattle.trace_read.proofs.configure.wrong.Statement.{statement}
+use Rattle.trace_read.proofs.configure.wrong.Tie as tie
+
+unread-requires : tie.Need-unread-requires
+unread-requires c κs = search needs
+
+returns : tie.Need-returns
+returns c = search (wrong-is, needs)
+
+pub wrong-spec : {M : Type 1} → statement M
+wrong-spec = tie.close (tie.spec unread-requires returns)

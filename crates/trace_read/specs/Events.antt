@@ -1,0 +1,51 @@
+-- Document 01, "Trace program": the event that a line names, if it names one.
+use Prim.Native.Nat.{ℕ}
+use mathlib.Core.List.{List}
+use mathlib.Core.Bool.{Bool, _&&_, cond}
+use mathlib.Core.Option.{Option, none, some}
+use lib.ListN.{length}
+use lib.Dec.{eqb, ltb}
+use Rattle.octets.specs.Decimal.{readNumber, onNumber}
+use Rattle.octets.specs.Hex.{isHex, octetsOf}
+use Rattle.octets.specs.Split.{partOf}
+use Rattle.octets.specs.Words.{same}
+use Rattle.endpoint.specs.Rule.{Event, setUp, change, release, t1, t2, message}
+use Rattle.trace_read.specs.Words.{fieldsOf, mostLine, setUpWord, changeWord, releaseWord, t1Word, t2Word, messageWord}
+
+-- the first field is the word
+abbrev pub led : List ℕ → List (List ℕ) → Bool
+led word ps = same word (partOf 0 ps)
+
+-- one field: a release or a timer
+unfoldable pub bareOf : List (List ℕ) → Option Event
+bareOf ps =
+    cond (led releaseWord ps) (some release)
+    (cond (led t1Word ps) (some t1)
+    (cond (led t2Word ps) (some t2) none))
+
+-- two: a message, its octets in pairs of digits
+unfoldable pub messageOf : List (List ℕ) → Option Event
+messageOf ps = cond (led messageWord ps && isHex (partOf 1 ps)) (some (message (octetsOf (partOf 1 ps)))) none
+
+-- four: a command that names a codec entry, a payload and a packet time, each a number up to 65535 with no leading zero
+unfoldable pub numbersOf : (ℕ → ℕ → ℕ → Event) → List (List ℕ) → Option Event
+numbersOf command ps =
+    onNumber (readNumber (partOf 1 ps))
+    (λ entry. onNumber (readNumber (partOf 2 ps))
+    (λ payload. onNumber (readNumber (partOf 3 ps)) (λ ptime. some (command entry payload ptime)) none)
+    none)
+    none
+
+unfoldable pub commandOf : List (List ℕ) → Option Event
+commandOf ps = cond (led setUpWord ps) (numbersOf setUp ps) (cond (led changeWord ps) (numbersOf change ps) none)
+
+-- the event that fields name, by how many there are
+unfoldable pub eventOf : List (List ℕ) → Option Event
+eventOf ps =
+    cond (eqb (length ps) 1) (bareOf ps)
+    (cond (eqb (length ps) 2) (messageOf ps)
+    (cond (eqb (length ps) 4) (commandOf ps) none))
+
+-- the event that a line names, whose text without its LF is s
+unfoldable pub eventIn : List ℕ → Option Event
+eventIn s = cond (ltb (length s) mostLine) (eventOf (fieldsOf s)) none

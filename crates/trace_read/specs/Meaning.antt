@@ -1,0 +1,34 @@
+-- What the structs and enums of this crate stand for.
+use Prim.Native.Nat.{ℕ}
+use mathlib.Core.List.{List, []}
+use mathlib.Core.Bool.{cond}
+use mathlib.Core.Option.{Option, none, some}
+use lib.ListN.{drop}
+use Rattle.octets.specs.Hex.{isHex, octetsOf}
+use Rattle.configuration.specs.Configuration.{Configuration}
+use Rattle.configuration.specs.Meaning.{configurationBy}
+use Rattle.endpoint.specs.Rule.{Event, message}
+use Rattle.endpoint.specs.Call as calls
+use Rattle.trace_read.specs.declared.Asked.{Asked}
+use Rattle.trace_read.specs.declared.Asked.the-variants.{Event as Named, Digits, Nothing}
+use Rattle.trace_read.specs.declared.Configured.{Configured}
+use Rattle.trace_read.specs.declared.Lent as places
+use Rattle.trace_read.specs.Lending.{Lent}
+
+-- the message that the digits t stand for, if they are digits
+unfoldable pub messageBy : List ℕ → Option Event
+messageBy t = cond (isHex t) (some (message (octetsOf t))) none
+
+-- the event that was read of the line s
+unfoldable pub askedBy : List ℕ → Asked → Option Event
+askedBy s (Named call) = some (calls.eventOf call [])
+askedBy s Digits = messageBy (drop 2 s)
+askedBy s Nothing = none
+
+-- the configuration that was read
+unfoldable pub configuredBy : Configured → Option Configuration
+configuredBy r = cond (r .right) (some (configurationBy (r .config))) none
+
+-- what is lent, and the event's line in s
+unfoldable pub lentBy : List ℕ → places.Lent → Lent
+lentBy s r = record { room = r .room; text = drop (r .at) s }

@@ -1,0 +1,298 @@
+// The lines that configure the endpoint.
+ghost use mathlib.Core.Path.{_≡_};
+ghost use mathlib.Core.Option.{none};
+ghost use Rattle.octets.specs.Split.{partOf};
+ghost use Rattle.configuration.specs.Meaning.{codecBy, configurationBy, entryBy};
+ghost use Rattle.trace_read.specs.Words.{fieldsOf};
+ghost use Rattle.trace_read.specs.Configuring.{hostIn, general, usable, timesOf, generalFields, generalIn, codecOf, payloadOf, rightly, addedTo, isCodecLine, codecIn};
+ghost use Rattle.trace_read.specs.Meaning.{configuredBy};
+ghost use Rattle.trace_read.specs.Steps.{smallOf, fourOf};
+ghost use Rattle.configuration.specs.Configuration.{named};
+use crate::Configured;
+use crate::events::number;
+use address::Address;
+use address::Parsed;
+use address::ipv4::read_ipv4;
+use address::ipv6::read_ipv6;
+use configuration::Codec;
+use configuration::Config;
+use configuration::Entry;
+use configuration::Format;
+use configuration::MOST_CODECS;
+use configuration::MOST_NAME;
+use configuration::check::right_codec;
+use configuration::check::right_general;
+use octets::Number;
+use octets::append::push;
+use octets::decimal::read_number;
+use octets::parts::part;
+use octets::parts::separators;
+use octets::words::digit_run;
+use octets::words::equals;
+
+// A number that an octet holds, or none.
+enum Small {
+    Value(u8),
+    Bad,
+}
+
+// The packet times and timers of a configuration.
+enum Four {
+    Numbers(u8, u8, u8, u8),
+    Wrong,
+}
+
+// A codec that says nothing.
+fn blank() -> Codec {
+    let name = [0u8; MOST_NAME];
+    Codec {
+        format: Format::Payload(0),
+        name,
+    }
+}
+
+// A configuration that says nothing.
+fn unread() -> Config {
+    let none = blank();
+    Config {
+        own: Address::V4(0),
+        port: 0,
+        least: 0,
+        most: 0,
+        t1: 0,
+        t2: 0,
+        count: 0,
+        codecs: [none; MOST_CODECS],
+    }
+}
+
+// The number in field k of a line, where an octet holds it.
+fn small_number(s: &[u8], k: usize) -> Small
+    ensures { λ r. ⌜ r ≡ smallOf (partOf k (fieldsOf (now (s .entry)))) ⌝ }
+{
+    let x = number(s, k);
+    let Number::Value(n) = x else {
+        return Small::Bad;
+    };
+    if 255 < n {
+        return Small::Bad;
+    }
+    Small::Value(n as u8)
+}
+
+// The numbers in fields 3 to 6.
+fn four_numbers(s: &[u8]) -> Four
+    ensures { λ r. ⌜ r ≡ fourOf (fieldsOf (now (s .entry))) ⌝ }
+{
+    let a = small_number(s, 3);
+    let Small::Value(least) = a else {
+        return Four::Wrong;
+    };
+    let b = small_number(s, 4);
+    let Small::Value(most) = b else {
+        return Four::Wrong;
+    };
+    let c = small_number(s, 5);
+    let Small::Value(t1) = c else {
+        return Four::Wrong;
+    };
+    let d = small_number(s, 6);
+    let Small::Value(t2) = d else {
+        return Four::Wrong;
+    };
+    Four::Numbers(least, most, t1, t2)
+}
+
+// An address of either family.
+fn read_host(s: &[u8]) -> Parsed
+    ensures { λ r. ⌜ r ≡ hostIn (now (s .entry)) ⌝ }
+{
+    let x = read_ipv4(s);
+    match x {
+        Parsed::Unicast(_) => x,
+        Parsed::Unreadable => read_ipv6(s),
+    }
+}
+
+// The address in field 1.
+fn host(s: &[u8]) -> Parsed
+    ensures { λ r. ⌜ r ≡ hostIn (partOf 1 (fieldsOf (now (s .entry)))) ⌝ }
+{
+    read_host(part(s, 9, 1))
+}
+
+// What can't be used.
+fn wrong() -> Configured
+    ensures { λ r. ⌜ configuredBy r ≡ none ⌝ }
+{
+    Configured {
+        right: false,
+        config: unread(),
+    }
+}
+
+// A configuration with no codec yet.
+fn general_of(own: Address, port: u16, least: u8, most: u8, t1: u8, t2: u8) -> Configured
+    ensures { λ r. ⌜ configuredBy r ≡ usable (general own port least most t1 t2) ⌝ }
+{
+    let none = blank();
+    let config = Config {
+        own,
+        port,
+        least,
+        most,
+        t1,
+        t2,
+        count: 0,
+        codecs: [none; MOST_CODECS],
+    };
+    Configured {
+        right: right_general(config),
+        config,
+    }
+}
+
+// The configuration with this address and port, and the numbers behind them.
+fn timed(s: &[u8], own: Address, port: u16) -> Configured
+    ensures { λ r. ⌜ configuredBy r ≡ timesOf own port (fieldsOf (now (s .entry))) ⌝ }
+{
+    match four_numbers(s) {
+        Four::Numbers(least, most, t1, t2) => general_of(own, port, least, most, t1, t2),
+        Four::Wrong => wrong(),
+    }
+}
+
+// The configuration of a `G` line's fields.
+fn addressed(s: &[u8]) -> Configured
+    ensures { λ r. ⌜ configuredBy r ≡ generalFields (fieldsOf (now (s .entry))) ⌝ }
+{
+    let a = host(s);
+    let Parsed::Unicast(own) = a else {
+        return wrong();
+    };
+    let b = number(s, 2);
+    let Number::Value(port) = b else {
+        return wrong();
+    };
+    timed(s, own, port)
+}
+
+// The configuration of the `G` line s, which stands without its LF.
+pub fn read_general(s: &[u8]) -> Configured
+    ensures { λ r. ⌜ configuredBy r ≡ generalIn (now (s .entry)) ⌝ }
+{
+    if separators(s, 9) != 6 {
+        return wrong();
+    }
+    if equals(b"G", part(s, 9, 0)) {
+        return addressed(s);
+    }
+    wrong()
+}
+
+// The line stands in the run of `K` lines.
+pub fn is_codec_line(s: &[u8]) -> bool
+    ensures { λ r. ⌜ r ≡ isCodecLine (now (s .entry)) ⌝ }
+{
+    equals(b"K", part(s, 9, 0))
+}
+
+// No codec.
+fn no_codec() -> Entry
+    ensures { λ r. ⌜ entryBy r ≡ none ⌝ }
+{
+    Entry {
+        known: false,
+        codec: blank(),
+    }
+}
+
+// The codec that a payload names.
+fn read_payload(t: &[u8]) -> Entry
+    ensures { λ r. ⌜ entryBy r ≡ payloadOf (now (t .entry)) ⌝ }
+{
+    let x = read_number(t);
+    let Number::Value(n) = x else {
+        return no_codec();
+    };
+    if 95 < n {
+        return no_codec();
+    }
+    let name = [0u8; MOST_NAME];
+    Entry {
+        known: true,
+        codec: Codec {
+            format: Format::Payload(n as u8),
+            name,
+        },
+    }
+}
+
+// The codec that an encoding name names.
+fn read_name(t: &[u8]) -> Entry
+    ensures { λ r. ⌜ entryBy r ≡ rightly (named (now (t .entry))) ⌝ }
+{
+    if MOST_NAME < t.len() {
+        return no_codec();
+    }
+    let mut name = [0u8; MOST_NAME];
+    push(t, &mut name, 0);
+    let codec = Codec {
+        format: Format::Named(t.len()),
+        name,
+    };
+    Entry {
+        known: right_codec(codec),
+        codec,
+    }
+}
+
+// The codec that a field names.
+fn read_codec(t: &[u8]) -> Entry
+    ensures { λ r. ⌜ entryBy r ≡ codecOf (now (t .entry)) ⌝ }
+{
+    if digit_run(t) {
+        return read_payload(t);
+    }
+    read_name(t)
+}
+
+// The codec in field 1.
+fn codec_field(s: &[u8]) -> Entry
+    ensures { λ r. ⌜ entryBy r ≡ codecOf (partOf 1 (fieldsOf (now (s .entry)))) ⌝ }
+{
+    read_codec(part(s, 9, 1))
+}
+
+// The configuration with one codec more.
+fn add_codec(c: Config, codec: Codec) -> Configured
+    ensures { λ r. ⌜ configuredBy r ≡ addedTo (configurationBy c) (codecBy codec) ⌝ }
+{
+    let n = c.count;
+    if MOST_CODECS <= n {
+        return wrong();
+    }
+    let mut config = c;
+    config.codecs[n] = codec;
+    config.count = n + 1;
+    Configured {
+        right: true,
+        config,
+    }
+}
+
+// The configuration c with the codec of the line s more, which stands without its LF in the run of `K` lines.
+pub fn read_codec_line(c: Config, s: &[u8]) -> Configured
+    ensures { λ r. ⌜ configuredBy r ≡ codecIn (configurationBy c) (now (s .entry)) ⌝ }
+{
+    if separators(s, 9) != 1 {
+        return wrong();
+    }
+    let e = codec_field(s);
+    let known = e.known;
+    let codec = e.codec;
+    if known {
+        return add_codec(c, codec);
+    }
+    wrong()
+}

@@ -1,0 +1,127 @@
+// The event that a line names.
+ghost use mathlib.Core.Path.{_≡_};
+ghost use mathlib.Core.Bool.{false};
+ghost use mathlib.Core.List.{[], _∷_};
+ghost use Rattle.octets.specs.Decimal.{readNumber};
+ghost use Rattle.octets.specs.Split.{partOf};
+ghost use Rattle.octets.specs.Words.{begins};
+ghost use Rattle.endpoint.specs.Rule.{Event};
+ghost use Rattle.trace_read.specs.Words.{fieldsOf};
+ghost use Rattle.trace_read.specs.Events.{bareOf, numbersOf, commandOf, eventOf, eventIn};
+ghost use Rattle.trace_read.specs.Meaning.{askedBy};
+ghost use Rattle.trace_read.specs.Steps.{threeOf};
+use crate::Asked;
+use crate::MOST_LINE;
+use endpoint::Call;
+use octets::Number;
+use octets::decimal::read_number;
+use octets::parts::part;
+use octets::parts::separators;
+use octets::words::equals;
+use octets::words::starts;
+
+// The numbers of a command.
+enum Three {
+    Numbers(u16, u16, u16),
+    Wrong,
+}
+
+// The number in field k of a line.
+pub(crate) fn number(s: &[u8], k: usize) -> Number
+    ensures { λ r. ⌜ r ≡ readNumber (partOf k (fieldsOf (now (s .entry)))) ⌝ }
+{
+    read_number(part(s, 9, k))
+}
+
+// The numbers in fields 1 to 3.
+fn three_numbers(s: &[u8]) -> Three
+    ensures { λ r. ⌜ r ≡ threeOf (fieldsOf (now (s .entry))) ⌝ }
+{
+    match number(s, 1) {
+        Number::Value(a) => match number(s, 2) {
+            Number::Value(b) => match number(s, 3) {
+                Number::Value(c) => Three::Numbers(a, b, c),
+                Number::Bad => Three::Wrong,
+            },
+            Number::Bad => Three::Wrong,
+        },
+        Number::Bad => Three::Wrong,
+    }
+}
+
+fn set_up(s: &[u8]) -> Asked
+    ensures { λ r. ⌜ askedBy (now (s .entry)) r ≡ numbersOf Event.setUp (fieldsOf (now (s .entry))) ⌝ }
+{
+    match three_numbers(s) {
+        Three::Numbers(entry, payload, ptime) => Asked::Event(Call::SetUp(entry, payload, ptime)),
+        Three::Wrong => Asked::Nothing,
+    }
+}
+
+fn change(s: &[u8]) -> Asked
+    ensures { λ r. ⌜ askedBy (now (s .entry)) r ≡ numbersOf Event.change (fieldsOf (now (s .entry))) ⌝ }
+{
+    match three_numbers(s) {
+        Three::Numbers(entry, payload, ptime) => Asked::Event(Call::Change(entry, payload, ptime)),
+        Three::Wrong => Asked::Nothing,
+    }
+}
+
+// The command of a line of four fields.
+fn command(s: &[u8]) -> Asked
+    ensures { λ r. ⌜ askedBy (now (s .entry)) r ≡ commandOf (fieldsOf (now (s .entry))) ⌝ }
+{
+    let word = part(s, 9, 0);
+    if equals(b"U", word) {
+        return set_up(s);
+    }
+    if equals(b"C", word) {
+        return change(s);
+    }
+    Asked::Nothing
+}
+
+// The event of a line of one field.
+fn bare(s: &[u8]) -> Asked
+    ensures { λ r. ⌜ askedBy (now (s .entry)) r ≡ bareOf (fieldsOf (now (s .entry))) ⌝ }
+{
+    let word = part(s, 9, 0);
+    if equals(b"X", word) {
+        return Asked::Event(Call::Release);
+    }
+    if equals(b"T1", word) {
+        return Asked::Event(Call::T1);
+    }
+    if equals(b"T2", word) {
+        return Asked::Event(Call::T2);
+    }
+    Asked::Nothing
+}
+
+// The event of a line that does not begin with the word of messages and a tab.
+fn other(s: &[u8]) -> Asked
+    requires { ⌜ begins (77 ∷ 9 ∷ []) (now s) ≡ false ⌝ }
+    ensures { λ r. ⌜ askedBy (now (s .entry)) r ≡ eventOf (fieldsOf (now (s .entry))) ⌝ }
+{
+    let n = separators(s, 9);
+    if n == 0 {
+        return bare(s);
+    }
+    if n == 3 {
+        return command(s);
+    }
+    Asked::Nothing
+}
+
+// The event of the line s, which stands without its LF. The digits of a message are not looked at.
+pub fn read_event(s: &[u8]) -> Asked
+    ensures { λ r. ⌜ askedBy (now (s .entry)) r ≡ eventIn (now (s .entry)) ⌝ }
+{
+    if MOST_LINE <= s.len() {
+        return Asked::Nothing;
+    }
+    if starts(b"M\t", s) {
+        return Asked::Digits;
+    }
+    other(s)
+}

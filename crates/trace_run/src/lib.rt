@@ -1,0 +1,145 @@
+// A run of a trace over one descriptor: lines in, lines out, to the end of the input.
+use line_input::gather;
+use line_output::Output;
+use line_output::flush;
+use line_output::make_room;
+use octets::spans::up_to;
+use trace::Phase;
+use trace::Session;
+
+// Room that is kept for what one line prints, so that nothing is cut: the line of an event has fewer than 80 octets, and in a
+// detailed trace at most 894 digits of a message and some 1,200 octets of a bearer behind it.
+const LINE: usize = 8192;
+
+// What is kept from octet to octet.
+struct State {
+    session: Session,
+    // The line that is being gathered (`line_input::gather`).
+    len: usize,
+    over: bool,
+    output: Output,
+    // Whether the input goes on.
+    going: bool,
+}
+
+fn start() -> State {
+    State {
+        session: Session::new(),
+        len: 0,
+        over: false,
+        output: Output { at: 0, taken: true },
+        going: true,
+    }
+}
+
+// The trace goes on behind this phase.
+fn goes_on(phase: Phase) -> bool {
+    match phase {
+        Phase::Start => true,
+        Phase::Configuring => true,
+        Phase::Running => true,
+        Phase::Stopped => false,
+    }
+}
+
+// The lines that end in part, and the beginning of the next. A line that is too long is not whole. (`next` is always past i; the
+// `if` shows that the loop ends.)
+fn feed(
+    state: State,
+    detailed: bool,
+    part: &[u8],
+    line: &mut [u8],
+    room: &mut [u8],
+    out: &mut [u8],
+) -> State {
+    let mut session = state.session;
+    let mut len = state.len;
+    let mut over = state.over;
+    let mut output = state.output;
+    let mut going = true;
+    let mut i = 0;
+    while i < part.len() && going && output.taken {
+        let g = gather(part, i, line, len, over);
+        let next = g.next;
+        if next <= i {
+            break;
+        }
+        i = next;
+        len = g.len;
+        over = g.over;
+        if g.ended {
+            let stepped = session.step(detailed, up_to(line, len), !over, room, out, output.at);
+            session = stepped.session;
+            output.at = stepped.at;
+            output = make_room(out, output, LINE);
+            going = goes_on(session.phase);
+            len = 0;
+            over = false;
+        }
+    }
+    State {
+        session,
+        len,
+        over,
+        output,
+        going,
+    }
+}
+
+// Reads once, and answers what came.
+fn turn(
+    fd: i32,
+    state: State,
+    detailed: bool,
+    part: &mut [u8],
+    line: &mut [u8],
+    room: &mut [u8],
+    out: &mut [u8],
+) -> State {
+    let mut st = state;
+    let got = libc::read(fd, part);
+    if got <= 0 {
+        st.going = false;
+        return st;
+    }
+    let n = io::count(got, part);
+    st = feed(st, detailed, &part[..n], line, room, out);
+    if st.output.taken {
+        st.output = flush(out, st.output);
+    }
+    st
+}
+
+// Answers what is left at the end of the input: a line that no LF ended, and a configuration that no event followed.
+fn finish(state: State, detailed: bool, line: &[u8], room: &mut [u8], out: &mut [u8]) {
+    let mut session = state.session;
+    let mut output = state.output;
+    if 0 < state.len {
+        let stepped = session.step(detailed, up_to(line, state.len), false, room, out, output.at);
+        session = stepped.session;
+        output.at = stepped.at;
+    }
+    output.at = session.finish(out, output.at);
+    flush(out, output);
+}
+
+// Answers each line of fd's input, to its end or until the output is not taken. Nothing says that the input ends, so the loop
+// counts its turns down from a number that no run uses up.
+pub fn run(
+    fd: i32,
+    detailed: bool,
+    part: &mut [u8],
+    line: &mut [u8],
+    room: &mut [u8],
+    out: &mut [u8],
+) {
+    let mut st = start();
+    let mut turns = u64::MAX;
+    while turns > 0 && st.going && st.output.taken {
+        st = turn(fd, st, detailed, part, line, room, out);
+        turns -= 1;
+    }
+    if st.output.taken {
+        finish(st, detailed, line, room, out);
+    }
+}

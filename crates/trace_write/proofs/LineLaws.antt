@@ -1,0 +1,52 @@
+-- Laws of the lines: their fields are appended one behind the other, with a blank (32) between them.
+-- Assumes nothing.
+use Prim.Native.Nat.{ℕ}
+use mathlib.Core.Path.{_≡_}
+use mathlib.Core.List.{List, [], _∷_, _++_, append-assoc}
+use mathlib.Core.Bool.{Bool}
+use mathlib.Core.Option.{Option, none, some}
+use Rattle.octets.specs.Append.{Appends, numberText}
+use Rattle.octets.proofs.AppendLaws.{append-then}
+use Rattle.notation.specs.Notation.{refusedShown}
+use Rattle.book.specs.declared.State.{State}
+use Rattle.book.specs.declared.Notice.{Notice}
+use Rattle.endpoint.specs.declared.Reply.{Reply}
+use Rattle.endpoint.specs.declared.Reply.the-variants.{Refused, Done}
+use Rattle.endpoint.specs.Rule.{Event}
+use Rattle.trace_write.specs.Words.{kindWord, badWord, stateWord, noticeWord, droppedWord}
+use Rattle.trace_write.specs.Lines.{kindOf, headText, nothingText, replyText, eventText}
+
+module _ (l g f : List ℕ) (at k r : ℕ) where
+  -- a text and a blank, and another text
+  pub blank-then : (x y : List ℕ) → Appends g k y r f → Appends l at (x ++ (32 ∷ [])) k g → Appends l at (x ++ (32 ∷ y)) r f
+  blank-then x y q p = rw append-assoc at (append-then l g f (x ++ (32 ∷ [])) y at k r q p)
+
+  -- ---- what is behind the kind
+  pub reply-refused : (s : State) (p : Reply) (n : ℕ) → p ≡ Refused n → Appends g k (refusedShown n ++ nothingText) r f
+      → Appends l at (stateWord s ++ (32 ∷ [])) k g → Appends l at (replyText s p) r f
+  unfolding replyText
+  reply-refused s p n e b a = rw e (blank-then (stateWord s) (refusedShown n ++ nothingText) b a)
+
+  pub reply-done : (s t : State) (p : Reply) (n : Notice) (w : ℕ) (d : Bool) → p ≡ Done t n w d
+      → Appends g k (noticeWord n ++ (32 ∷ (droppedWord d ++ (32 ∷ numberText w)))) r f
+      → Appends l at (stateWord t ++ (32 ∷ [])) k g → Appends l at (replyText s p) r f
+  unfolding replyText
+  reply-done s t p n w d e b a = rw e (blank-then (stateWord t) (noticeWord n ++ (32 ∷ (droppedWord d ++ (32 ∷ numberText w)))) b a)
+
+  -- ---- the number and the kind
+  pub head-event : (n : ℕ) (e : Event) → Appends g k (kindWord e) r f → Appends l at (numberText n ++ (32 ∷ [])) k g
+      → Appends l at (headText n (some e)) r f
+  unfolding headText kindOf
+  head-event n e b a = blank-then (numberText n) (kindWord e) b a
+
+  pub head-bad : (n : ℕ) → Appends g k badWord r f → Appends l at (numberText n ++ (32 ∷ [])) k g → Appends l at (headText n none) r f
+  unfolding headText kindOf
+  head-bad n b a = blank-then (numberText n) badWord b a
+
+  -- ---- both
+  pub event-text : (n : ℕ) (e : Option Event) (s : State) (p : Reply) → Appends g k (32 ∷ replyText s p) r f
+      → Appends l at (headText n e) k g → Appends l at (eventText n e s p) r f
+  unfolding eventText
+  event-text n e s p b a = append-then l g f (headText n e) (32 ∷ replyText s p) at k r b a
+
+pub ruleset replies = (reply-refused, reply-done)

@@ -1,0 +1,4 @@
+// The lines that a trace prints.
+pub mod detail;
+pub mod lines;
+mod words;

@@ -1,0 +1,152 @@
+// The line of an event, without its LF, and what is printed of a configuration.
+ghost use mathlib.Core.List.{[], _∷_, _++_};
+ghost use mathlib.Core.Option.{none, some};
+ghost use Rattle.octets.specs.Append.{Appends, numberText};
+ghost use Rattle.endpoint.specs.Call as calls;
+ghost use Rattle.notation.specs.Notation.{refusedShown};
+ghost use Rattle.trace_write.specs.Words.{kindWord, badWord, stateWord, noticeWord, droppedWord};
+ghost use Rattle.trace_write.specs.Lines.{headerLine, refusedLine, headText, nothingText, replyText, eventText};
+use crate::words::push_dropped;
+use crate::words::push_kind;
+use crate::words::push_notice;
+use crate::words::push_state;
+use book::Notice;
+use book::State;
+use endpoint::Call;
+use endpoint::Reply;
+use notation::push_refused;
+use octets::append::push;
+use octets::append::push_number;
+use octets::append::push_number_then;
+use octets::append::push_octet;
+
+// Appends the line of field names.
+pub fn push_header(out: &mut [u8], at: usize) -> usize
+    ensures { λ r. ⌜ Appends (now (out .entry)) at headerLine r (now (out .exit)) ⌝ }
+{
+    push(b"n event state notice dropped written\n", out, at)
+}
+
+// Appends what is printed of a configuration that can't be used.
+pub fn push_refused_line(out: &mut [u8], at: usize) -> usize
+    ensures { λ r. ⌜ Appends (now (out .entry)) at refusedLine r (now (out .exit)) ⌝ }
+{
+    let k = push_refused(12, out, at);
+    push_octet(10, out, k)
+}
+
+// Appends a state and a blank.
+fn push_state_then(state: State, out: &mut [u8], at: usize) -> usize
+    ensures { λ r. ⌜ Appends (now (out .entry)) at (stateWord state ++ (32 ∷ [])) r (now (out .exit)) ⌝ }
+{
+    let k = push_state(state, out, at);
+    push_octet(32, out, k)
+}
+
+// Appends a notice and a blank.
+fn push_notice_then(notice: Notice, out: &mut [u8], at: usize) -> usize
+    ensures { λ r. ⌜ Appends (now (out .entry)) at (noticeWord notice ++ (32 ∷ [])) r (now (out .exit)) ⌝ }
+{
+    let k = push_notice(notice, out, at);
+    push_octet(32, out, k)
+}
+
+// Appends whether our own change was dropped, and a blank.
+fn push_dropped_then(dropped: bool, out: &mut [u8], at: usize) -> usize
+    ensures { λ r. ⌜ Appends (now (out .entry)) at (droppedWord dropped ++ (32 ∷ [])) r (now (out .exit)) ⌝ }
+{
+    let k = push_dropped(dropped, out, at);
+    push_octet(32, out, k)
+}
+
+// Appends what a refusal has behind the state.
+fn push_refusal(n: u8, out: &mut [u8], at: usize) -> usize
+    ensures { λ r. ⌜ Appends (now (out .entry)) at (refusedShown n ++ nothingText) r (now (out .exit)) ⌝ }
+{
+    let k = push_refused(n, out, at);
+    push(b" no 0", out, k)
+}
+
+// Appends whether our own change was dropped, and how many octets were written.
+fn push_written(dropped: bool, written: usize, out: &mut [u8], at: usize) -> usize
+    ensures { λ r. ⌜ Appends (now (out .entry)) at (droppedWord dropped ++ (32 ∷ numberText written)) r (now (out .exit)) ⌝ }
+{
+    let k = push_dropped_then(dropped, out, at);
+    push_number(written as u64, out, k)
+}
+
+// Appends what an event that is not refused has behind the state.
+fn push_done(notice: Notice, dropped: bool, written: usize, out: &mut [u8], at: usize) -> usize
+    ensures { λ r. ⌜ Appends (now (out .entry)) at (noticeWord notice ++ (32 ∷ (droppedWord dropped ++ (32 ∷ numberText written)))) r (now (out .exit)) ⌝ }
+{
+    let k = push_notice_then(notice, out, at);
+    push_written(dropped, written, out, k)
+}
+
+// Appends a reply; state is the one that a refusal leaves.
+fn push_reply(state: State, reply: Reply, out: &mut [u8], at: usize) -> usize
+    ensures { λ r. ⌜ Appends (now (out .entry)) at (replyText state reply) r (now (out .exit)) ⌝ }
+{
+    match reply {
+        Reply::Refused(n) => {
+            let k = push_state_then(state, out, at);
+            push_refusal(n, out, k)
+        }
+        Reply::Done {
+            state: after,
+            notice,
+            written,
+            dropped,
+        } => {
+            let k = push_state_then(after, out, at);
+            push_done(notice, dropped, written, out, k)
+        }
+    }
+}
+
+// Appends the number and the kind of an event.
+fn push_head(number: u64, call: Call, out: &mut [u8], at: usize) -> usize
+    ensures { λ r. ⌜ Appends (now (out .entry)) at (headText number (some (calls.eventOf call []))) r (now (out .exit)) ⌝ }
+{
+    let k = push_number_then(number, 32, out, at);
+    push_kind(call, out, k)
+}
+
+// Appends the number of a line that is no event, and that it is bad.
+fn push_bad_head(number: u64, out: &mut [u8], at: usize) -> usize
+    ensures { λ r. ⌜ Appends (now (out .entry)) at (headText number none) r (now (out .exit)) ⌝ }
+{
+    let k = push_number_then(number, 32, out, at);
+    push(b"bad", out, k)
+}
+
+// Appends a blank and a reply.
+fn push_behind(state: State, reply: Reply, out: &mut [u8], at: usize) -> usize
+    ensures { λ r. ⌜ Appends (now (out .entry)) at (32 ∷ replyText state reply) r (now (out .exit)) ⌝ }
+{
+    let k = push_octet(32, out, at);
+    push_reply(state, reply, out, k)
+}
+
+// Appends the line of an event, in whose place the endpoint had this state.
+pub fn push_event(
+    number: u64,
+    call: Call,
+    state: State,
+    reply: Reply,
+    out: &mut [u8],
+    at: usize,
+) -> usize
+    ensures { λ r. ⌜ Appends (now (out .entry)) at (eventText number (some (calls.eventOf call [])) state reply) r (now (out .exit)) ⌝ }
+{
+    let k = push_head(number, call, out, at);
+    push_behind(state, reply, out, k)
+}
+
+// Appends the line of what is no event.
+pub fn push_bad(number: u64, state: State, out: &mut [u8], at: usize) -> usize
+    ensures { λ r. ⌜ Appends (now (out .entry)) at (eventText number none state (Reply.Refused 13)) r (now (out .exit)) ⌝ }
+{
+    let k = push_bad_head(number, out, at);
+    push_behind(state, Reply::Refused(13), out, k)
+}
