@@ -107,14 +107,14 @@ module _ (c : Config) (l : Line) (room room′ out out′ : List ℕ) (at : ℕ)
     unfolding stepped begun going
     no-codec h n x =
         let z : isCodecLine (l .text) ≡ false = sym e ∙ h in
-        rw (z, not-false u _ f n) (x room)
+        rw (z, not-false u (eqb (length (configurationBy c .codecs)) 0) f n) (x room)
 
     pub first-event : t ≡ false → u ≡ true → Does (behind headerLine (ran d (configurationBy c) idle 0 l room)) room′ out out′ at r
         → Does (stepped d (configuring (configurationBy c)) l room) room′ out out′ at r
     unfolding stepped begun
     first-event h n x =
         let z : isCodecLine (l .text) ≡ false = sym e ∙ h in
-        rw (z, not-true u _ f n) x
+        rw (z, not-true u (eqb (length (configurationBy c .codecs)) 0) f n) x
 
 pub ruleset configureds = (codec-line, no-codec, first-event)
 
@@ -122,11 +122,11 @@ pub ruleset configureds = (codec-line, no-codec, first-event)
 module _ (c : Config) (u : Bool) (f : u ≡ not (eqb (length (configurationBy c .codecs)) 0)) (out out′ : List ℕ) (at r : ℕ) where
   pub end-codecs : u ≡ true → Appends out at headerLine r out′ → Appends out at (ending (configuring (configurationBy c))) r out′
   unfolding ending
-  end-codecs h a = rw (not-true u _ f h) a
+  end-codecs h a = rw (not-true u (eqb (length (configurationBy c .codecs)) 0) f h) a
 
   pub end-none : u ≡ false → Appends out at refusedLine r out′ → Appends out at (ending (configuring (configurationBy c))) r out′
   unfolding ending
-  end-none h a = rw (not-false u _ f h) a
+  end-none h a = rw (not-false u (eqb (length (configurationBy c .codecs)) 0) f h) a
 
 pub ruleset closings = (end-codecs, end-none)
 

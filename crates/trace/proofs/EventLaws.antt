@@ -5,8 +5,8 @@ use mathlib.Core.Path.{_≡_, refl, sym, ap, _∙_}
 use mathlib.Core.List.{List, [], _∷_, _++_, append-assoc}
 use mathlib.Core.Bool.{Bool, true, false, cond}
 use mathlib.Core.Option.{Option, none, some}
-use lib.ListN.{length, take, drop}
-use lib.Seq.{take-at, length-take-le, take-append-drop}
+use lib.ListN.{length, take, drop, replicate, length-drop, take-append-drop}
+use lib.Seq.{take-at, length-take-le}
 use native.Mathlib.Omega.{arith}
 use borrow.Rule.Slice.PartMut.{midOf, putMid}
 use borrow.Author.Tests.{lt-ltb, le-ltb}
@@ -20,10 +20,12 @@ use Rattle.book.specs.declared.Side.{Side}
 use Rattle.book.specs.declared.Notice.{Notice}
 use Rattle.book.specs.Book.{stateOf, settled, moved, answered, refusal, answer}
 use Rattle.book.specs.Book as told
+use Rattle.book.specs.States.{holdsAt}
 use Rattle.media.specs.Stream.{Stream}
 use Rattle.configuration.specs.Meaning.{configurationBy}
 use Rattle.bearer.specs.Bearer.{Bearer}
-use Rattle.bearer.specs.Meaning.{requestBy, bearerBy}
+use Rattle.bearer.specs.declared.Bearer as held
+use Rattle.bearer.specs.Meaning.{requestBy, bearerBy, heldIf}
 use Rattle.endpoint.specs.declared.Endpoint.{Endpoint}
 use Rattle.endpoint.specs.declared.Answer.{Answer}
 use Rattle.endpoint.specs.declared.Call.{Call}
@@ -37,11 +39,11 @@ use Rattle.endpoint.proofs.VerdictLaws.{held-by}
 use Rattle.notation.specs.Notation.{ReadsOctets}
 use Rattle.notation.proofs.OctetsLaws.{read-back, read-wrong}
 use Rattle.trace_read.specs.declared.Asked.{Asked}
-use Rattle.trace_read.specs.declared.Asked.the-variants as asked
+use Rattle.trace_read.specs.declared.Asked.the-variants as reading
 use Rattle.trace_read.specs.declared.Lent as places
 use Rattle.trace_read.specs.Events.{eventIn}
 use Rattle.trace_read.specs.Lending.{Lent, lentIn}
-use Rattle.trace_read.specs.Meaning.{messageBy, askedBy, lentBy}
+use Rattle.trace_read.specs.Meaning.{messageBy, askedBy, Asks, lentBy}
 use Rattle.trace_write.specs.Words.{kindWord}
 use Rattle.trace_write.specs.Lines.{kindOf, headText, eventText}
 use Rattle.trace_write.specs.Detail.{detailText}
@@ -99,8 +101,9 @@ written-some r s n w d e = rw e
 pub ruleset writtens = (written-none, written-some)
 
 -- ---- the end of a line
-pub more-yes : (d : Bool) (s l f : List ℕ) (at r : ℕ) (force : Option Bearer) → d ≡ true → Appends l at (detailText s force) r f → Appends l at (cond d (detailText s force) []) r f
-more-yes d s l f at r force h a = rw h a
+pub more-yes : (d u : Bool) (s l f : List ℕ) (at r : ℕ) (st : State) (b : held.Bearer) → u ≡ holdsAt st → d ≡ true
+    → Appends l at (detailText s (heldIf u (bearerBy b))) r f → Appends l at (cond d (detailText s (heldIf (holdsAt st) (bearerBy b))) []) r f
+more-yes d u s l f at r st b e h a = rw (h, ← e) a
 
 pub more-no : (d : Bool) (s l : List ℕ) (at : ℕ) (force : Option Bearer) → d ≡ false → Appends l at (cond d (detailText s force) []) at l
 more-no d s l at force h = rw h (appending.append-nil l at)
@@ -128,7 +131,8 @@ module _ (self : Endpoint) (call : Call) (m room room′ out out′ : List ℕ) 
       let c = configurationBy (self .config) in
       let e = length-take-le w room l in
       let v = rule c (bookOf self) (record { event = eventOf call m; room = w }) in
-      let g : Gave self v (take w room) (h .front) r = rw e at h .did in
+      let b : Did self (eventOf call m) (take w room) (h .front) r = h .did in
+      let g : Gave self v (take w room) (h .front) r = rw e at b in
       let z : room′ ≡ outFor (answered (bookOf self) v) (take w room) ++ drop w room = h .whole ∙ ap (λ (x : List ℕ). x ++ drop w room) (g .out) in
       let o : take (writtenBy (r .reply)) room′ ≡ octetsIn (answered (bookOf self) v) = rw (g .reply, z) (front-octets (answered (bookOf self) v) w room) in
       let f : forceBy (r .endpoint) ≡ settled (moved (bookOf self) v) = force-is (r .endpoint) ∙ ap settled (g .book) in
@@ -151,20 +155,20 @@ passed-is self out g out′ n at k k₂ d b a room w =
       lent = sym (take-append-drop w room);
     }
 
--- ---- a message
-module _ (self : Endpoint) (t l f room room′ out out′ : List ℕ) (w n at : ℕ) (d : Bool) (r : Stepped) where
-  pub heard-is : (m : List ℕ) → ReadsOctets t l true f → m ≡ take (length t / 2) f
+-- ---- a message, whose octets were read into 600 zeros
+module _ (self : Endpoint) (t f room out out′ : List ℕ) (w n at : ℕ) (d u : Bool) (r : Stepped) (p : ReadsOctets t (replicate 600 0) u f) where
+  pub heard-is : (m room′ : List ℕ) → u ≡ true → m ≡ take (length t / 2) f
       → Does (handled d (configurationBy (self .config)) (bookOf self) n (some (eventOf Message m)) room w) room′ out out′ at r
       → Does (handled d (configurationBy (self .config)) (bookOf self) n (messageBy t) room w) room′ out out′ at r
   unfolding messageBy
-  heard-is m p q x =
-      let (h, e) = read-back t l f p in
+  heard-is m room′ y q x =
+      let (h, e) = read-back t (replicate 600 0) f (rw y at p) in
       rw h (rw (q, e) at x)
 
-pub unheard-is : (self : Endpoint) (t l f room out out′ : List ℕ) (w n at : ℕ) (d : Bool) (r : Stepped) → ReadsOctets t l false f → length t / 2 ≤ length l
-    → Passes d self n out out′ at r → Does (handled d (configurationBy (self .config)) (bookOf self) n (messageBy t) room w) room out out′ at r
-unfolding messageBy
-unheard-is self t l f room out out′ w n at d r p h x = rw (read-wrong t l f p h) (x room w)
+  pub unheard-is : u ≡ false → Hearable t room w → Passes d self n out out′ at r
+      → Does (handled d (configurationBy (self .config)) (bookOf self) n (messageBy t) room w) room out out′ at r
+  unfolding messageBy
+  unheard-is y h x = rw (read-wrong t (replicate 600 0) f (rw y at p) (h .octets)) (x room w)
 
 -- ---- a line, once what it asks for is taken off
 module _ (self : Endpoint) (s room out out′ : List ℕ) (asked n at : ℕ) (d : Bool) (r : Stepped) where
@@ -173,29 +177,39 @@ module _ (self : Endpoint) (s room out out′ : List ℕ) (asked n at : ℕ) (d 
   unfolding lentTo askedIn
   broken-is whole h x = rw h (x room (min asked (length room)))
 
-  module _ (whole : Bool) (y : Asked) (h : whole ≡ true) (e : askedBy s y ≡ eventIn s) where
-    pub nothing-is : y ≡ asked.Nothing → Passes d self n out out′ at r
+  module _ (whole : Bool) (y : Asked) (h : whole ≡ true) (e : Asks s y) where
+    pub nothing-is : y ≡ reading.Nothing → Passes d self n out out′ at r
         → Does (lentTo d (configurationBy (self .config)) (bookOf self) n whole room (record { room = asked; text = s })) room out out′ at r
     unfolding lentTo askedIn askedBy
     nothing-is q x =
-        let z : none ≡ eventIn s = rw q at e in
+        let i : askedBy s y ≡ eventIn s = e .is in
+        let z : none ≡ eventIn s = rw q at i in
         rw (h, ← z) (x room (min asked (length room)))
 
-    pub event-is : (call : Call) (w : ℕ) (m room′ : List ℕ) → y ≡ asked.Event call → w ≡ min asked (length room) → m ≡ []
+    pub event-is : (call : Call) (w : ℕ) (m room′ : List ℕ) → y ≡ reading.Event call → w ≡ min asked (length room) → m ≡ []
         → Does (handled d (configurationBy (self .config)) (bookOf self) n (some (eventOf call m)) room w) room′ out out′ at r
         → Does (lentTo d (configurationBy (self .config)) (bookOf self) n whole room (record { room = asked; text = s })) room′ out out′ at r
     unfolding lentTo askedIn askedBy
     event-is call w m room′ q p o x =
-        let z : some (eventOf call []) ≡ eventIn s = rw q at e in
+        let i : askedBy s y ≡ eventIn s = e .is in
+        let z : some (eventOf call []) ≡ eventIn s = rw q at i in
         rw (h, ← z, ← p) (rw o at x)
 
-    pub digits-is : (w : ℕ) (t room′ : List ℕ) → y ≡ asked.Digits → w ≡ min asked (length room) → t ≡ drop 2 s
+    pub digits-is : (w : ℕ) (t room′ : List ℕ) → y ≡ reading.Digits → w ≡ min asked (length room) → t ≡ drop 2 s
         → Does (handled d (configurationBy (self .config)) (bookOf self) n (messageBy t) room w) room′ out out′ at r
         → Does (lentTo d (configurationBy (self .config)) (bookOf self) n whole room (record { room = asked; text = s })) room′ out out′ at r
     unfolding lentTo askedIn askedBy
     digits-is w t room′ q p o x =
-        let z : messageBy (drop 2 s) ≡ eventIn s = rw q at e in
+        let i : askedBy s y ≡ eventIn s = e .is in
+        let z : messageBy (drop 2 s) ≡ eventIn s = rw q at i in
         rw (h, ← z, ← p, ← o) x
+
+-- its digits are few
+pub hearable : (s t room : List ℕ) (asked w : ℕ) (y : Asked) → Asks s y → y ≡ reading.Digits → t ≡ drop 2 s → w ≡ min asked (length room) → Hearable t room w
+hearable s t room asked w y e q o p =
+    let k = e .short q in
+    let z : length t ≡ length s - 2 = rw o (length-drop 2 s) in
+    record { octets = omega arith; lendable = omega arith }
 
 -- ---- numbers
 pub number-more : (n : ℕ) → n < 2 ^ 64 - 1 → n + 1 ≡ following n
@@ -215,3 +229,18 @@ pub ran-is : (self : Endpoint) (line s room room′ out out′ : List ℕ) (numb
     → Does (ran d (configurationBy (self .config)) (bookOf self) number (record { text = line; whole = whole }) room) room′ out out′ at r
 unfolding ran lentBy
 ran-is self line s room room′ out out′ number n at d whole p r e q h x = rw (← e, ← q, ← h) x
+
+-- the line of an event that has given its answer
+pub answer-line : (call : Call) (state : State) (r : Answer) (room o out g out′ : List ℕ) (n at k k₂ w : ℕ) (d : Bool)
+    → Appends g k (cond d (detailText o (forceBy (r .endpoint))) [] ++ (10 ∷ [])) k₂ out′
+    → Appends out at (eventText n (some (eventOf call [])) state (r .reply)) k g
+    → o ≡ take w room → w ≡ writtenBy (r .reply)
+    → Appends out at (lineText d n (some (eventOf call [])) state (r .reply) (take (writtenBy (r .reply)) room) (forceBy (r .endpoint))) k₂ out′
+unfolding lineText
+answer-line call state r room o out g out′ n at k k₂ w d b a p q = rw (← q, ← p) (append-then out g out′ _ _ at k k₂ b a)
+
+pub ruleset mores = (more-yes, more-no)
+
+pub ruleset hears = (heard-is, unheard-is)
+
+pub ruleset answers = (broken-is, nothing-is, event-is, digits-is)

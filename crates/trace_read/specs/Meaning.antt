@@ -1,9 +1,10 @@
 -- What the structs and enums of this crate stand for.
-use Prim.Native.Nat.{ℕ}
+use Prim.Native.Nat.{ℕ, _<_}
+use mathlib.Core.Path.{_≡_}
 use mathlib.Core.List.{List, []}
 use mathlib.Core.Bool.{cond}
 use mathlib.Core.Option.{Option, none, some}
-use lib.ListN.{drop}
+use lib.ListN.{length, drop}
 use Rattle.octets.specs.Hex.{isHex, octetsOf}
 use Rattle.configuration.specs.Configuration.{Configuration}
 use Rattle.configuration.specs.Meaning.{configurationBy}
@@ -13,6 +14,8 @@ use Rattle.trace_read.specs.declared.Asked.{Asked}
 use Rattle.trace_read.specs.declared.Asked.the-variants.{Event as Named, Digits, Nothing}
 use Rattle.trace_read.specs.declared.Configured.{Configured}
 use Rattle.trace_read.specs.declared.Lent as places
+use Rattle.trace_read.specs.Words.{mostLine}
+use Rattle.trace_read.specs.Events.{eventIn}
 use Rattle.trace_read.specs.Lending.{Lent}
 
 -- the message that the digits t stand for, if they are digits
@@ -24,6 +27,11 @@ unfoldable pub askedBy : List ℕ → Asked → Option Event
 askedBy s (Named call) = some (calls.eventOf call [])
 askedBy s Digits = messageBy (drop 2 s)
 askedBy s Nothing = none
+
+-- r is the event of the line s; whoever reads the digits of a message need not look at the line's length again
+pub record Asks (s : List ℕ) (r : Asked) : Type 0 where
+  pub is : askedBy s r ≡ eventIn s
+  pub short : r ≡ Digits → length s < mostLine
 
 -- the configuration that was read
 unfoldable pub configuredBy : Configured → Option Configuration

@@ -7,8 +7,8 @@ ghost use Rattle.octets.specs.Split.{partOf};
 ghost use Rattle.octets.specs.Words.{begins};
 ghost use Rattle.endpoint.specs.Rule.{Event};
 ghost use Rattle.trace_read.specs.Words.{fieldsOf};
-ghost use Rattle.trace_read.specs.Events.{bareOf, numbersOf, commandOf, eventOf, eventIn};
-ghost use Rattle.trace_read.specs.Meaning.{askedBy};
+ghost use Rattle.trace_read.specs.Events.{bareOf, numbersOf, commandOf, eventOf};
+ghost use Rattle.trace_read.specs.Meaning.{askedBy, Asks};
 ghost use Rattle.trace_read.specs.Steps.{threeOf};
 use crate::Asked;
 use crate::MOST_LINE;
@@ -115,7 +115,7 @@ fn other(s: &[u8]) -> Asked
 
 // The event of the line s, which stands without its LF. The digits of a message are not looked at.
 pub fn read_event(s: &[u8]) -> Asked
-    ensures { λ r. ⌜ askedBy (now (s .entry)) r ≡ eventIn (now (s .entry)) ⌝ }
+    ensures { λ r. ⌜ Asks (now (s .entry)) r ⌝ }
 {
     if MOST_LINE <= s.len() {
         return Asked::Nothing;
