@@ -72,9 +72,11 @@ fn feed(
             session = stepped.session;
             output.at = stepped.at;
             output = make_room(out, output, LINE);
-            going = goes_on(session.phase);
+            let phase = session.phase;
+            going = goes_on(phase);
             len = 0;
             over = false;
+            continue;
         }
     }
     State {
@@ -110,15 +112,31 @@ fn turn(
     st
 }
 
-// Answers what is left at the end of the input: a line that no LF ended, and a configuration that no event followed.
-fn finish(state: State, detailed: bool, line: &[u8], room: &mut [u8], out: &mut [u8]) {
-    let mut session = state.session;
-    let mut output = state.output;
-    if 0 < state.len {
-        let stepped = session.step(detailed, up_to(line, state.len), false, room, out, output.at);
-        session = stepped.session;
-        output.at = stepped.at;
+// Answers a line that no LF ended, if there is one.
+fn end_line(state: State, detailed: bool, line: &[u8], room: &mut [u8], out: &mut [u8]) -> State {
+    let len = state.len;
+    if len == 0 {
+        return state;
     }
+    let session = state.session;
+    let mut output = state.output;
+    let stepped = session.step(detailed, up_to(line, len), false, room, out, output.at);
+    let left = stepped.session;
+    output.at = stepped.at;
+    State {
+        session: left,
+        len: 0,
+        over: false,
+        output,
+        going: false,
+    }
+}
+
+// Answers what is left at the end of the input: such a line, and a configuration that no event followed.
+fn finish(state: State, detailed: bool, line: &[u8], room: &mut [u8], out: &mut [u8]) {
+    let st = end_line(state, detailed, line, room, out);
+    let session = st.session;
+    let mut output = st.output;
     output.at = session.finish(out, output.at);
     flush(out, output);
 }

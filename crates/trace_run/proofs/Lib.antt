@@ -1,2 +1,0 @@
--- The laws of the definitions in `specs/`, a file for each subject.
--- Assumes nothing.
