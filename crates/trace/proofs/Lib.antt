@@ -2,3 +2,4 @@
 -- Assumes nothing.
 pub mod EventLaws
 pub mod ConfiguringLaws
+pub mod Right

@@ -8,8 +8,8 @@ struct Manner {
     slow: bool,
 }
 
-// One trace, read part by part.
-fn run_parts(
+// One trace.
+fn run_trace(
     fd: i32,
     manner: Manner,
     part: &mut [u8],
@@ -17,6 +17,9 @@ fn run_parts(
     room: &mut [u8],
     out: &mut [u8],
 ) {
+    if part.len() == 0 {
+        return;
+    }
     if manner.slow {
         trace_run::run(fd, manner.detailed, &mut part[0..1], line, room, out);
         return;
@@ -41,7 +44,7 @@ fn run_file(
         io::write_all(STDOUT_FILENO, b"no file\n");
         return;
     }
-    run_parts(fd, manner, part, line, room, out);
+    run_trace(fd, manner, part, line, room, out);
     libc::close(fd);
 }
 

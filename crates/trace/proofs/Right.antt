@@ -1,0 +1,159 @@
+-- Whatever lines come, an endpoint that a trace runs has a configuration that can be used: each line of the configuration is judged
+-- when it comes, and the first event finds one codec at least.
+-- Assumes nothing.
+use Prim.Native.Nat.{ℕ, _+_, _≤_, _<_}
+use mathlib.Core.Path.{_≡_, refl, subst}
+use mathlib.Core.List.{List, [], _∷_, _++_}
+use mathlib.Core.Bool.{Bool, true, false, _&&_, cond}
+use mathlib.Core.Option.{Option, none, some, Option·elim}
+use lib.ListN.{length, length-append}
+use lib.Dec.{eqb, ltb}
+use native.Mathlib.Omega.{arith}
+use borrow.Author.Tests.{le-leb, ltb-true, eqb-false}
+use Rattle.octets.specs.declared.Number.{Number}
+use Rattle.octets.specs.declared.Number.the-variants.{Value, Bad}
+use Rattle.octets.specs.Decimal.{allDigits, readNumber, onNumber}
+use Rattle.octets.specs.Split.{partOf}
+use Rattle.octets.proofs.CaseLaws.{by-bool}
+use Rattle.address.specs.declared.Address.{Address}
+use Rattle.address.specs.declared.Parsed.{Parsed}
+use Rattle.address.specs.declared.Parsed.the-variants.{Unicast, Unreadable}
+use Rattle.address.specs.Kinds.{onParsed}
+use Rattle.configuration.specs.Configuration.{Codec, fixed, named, Configuration, mostCodecs, rightCodec, allRight, rightCodecs, rightGeneral, rightConfiguration}
+use Rattle.trace_read.specs.Configuring.{hostIn, general, usable, timesOf, generalFields, generalOf, generalIn, rightly, payloadOf, codecOf, withCodec, addedTo, codecFor, codecIn, isCodecLine}
+use Rattle.trace_read.specs.Words.{fieldsOf, generalWord}
+use Rattle.trace_read.specs.Events.{led}
+use Rattle.trace.specs.Trace.{Trace, start, configuring, running, stopped, Line, judged, handled, lentTo, ran, silent, refusing, going, behind, begun, wholly, stepped}
+
+-- the configuration can be used, but that it may have no codec yet
+pub record Begun (c : Configuration) : Type 0 where
+  pub general : rightGeneral c ≡ true
+  pub codecs : allRight (c .codecs) ≡ true
+  pub few : length (c .codecs) ≤ mostCodecs
+
+-- what holds of a trace's configuration
+abbrev pub Right : Trace → Type 0
+Right start = Unit {0}
+Right (configuring c) = Begun c
+Right (running c k n) = rightConfiguration c ≡ true
+Right stopped = Unit {0}
+
+-- ---- what holds of something, if there is something
+record Each {A : Type 0} (P : A → Type 0) (x : Option A) : Type 0 where
+  holds : (y : A) → x ≡ some y → P y
+
+module _ {A : Type 0} (P : A → Type 0) where
+  each-none : Each P none
+  each-none = record { holds = λ y e. (let z : _≡_ {A = ℕ} 0 1 = cc in absurd (omega arith)) }
+
+  each-some : (x : A) → P x → Each P (some x)
+  each-some x h = record { holds = λ y e. subst P (some-same x y e) h }
+    where
+      some-same : (x y : A) → some x ≡ some y → x ≡ y
+      some-same x y e = cc
+
+  each-cond : (b : Bool) (x : Option A) → Each P x → Each P (cond b x none)
+  each-cond true x h = h
+  each-cond false x h = each-none
+
+  each-either : (b : Bool) (x y : Option A) → Each P x → Each P y → Each P (cond b x y)
+  each-either true x y h k = h
+  each-either false x y h k = k
+
+  each-right : (b : Bool) (x : A) → (b ≡ true → P x) → Each P (cond b (some x) none)
+  each-right true x h = each-some x (h refl)
+  each-right false x h = each-none
+
+  each-number : (y : Number) (f : ℕ → Option A) → ((n : ℕ) → Each P (f n)) → Each P (onNumber y f none)
+  unfolding onNumber
+  each-number (Value n) f h = h n
+  each-number Bad f h = each-none
+
+  each-parsed : (y : Parsed) (f : Address → Option A) → ((a : Address) → Each P (f a)) → Each P (onParsed y f none)
+  unfolding onParsed
+  each-parsed (Unicast a) f h = h a
+  each-parsed Unreadable f h = each-none
+
+-- ---- the `G` line
+usable-begun : (own : Address) (port least most t1 t2 : ℕ) → Each Begun (usable (general own port least most t1 t2))
+unfolding usable general allRight
+usable-begun own port least most t1 t2 =
+    each-right Begun (rightGeneral (general own port least most t1 t2)) (general own port least most t1 t2)
+    (λ h. record { general = h; codecs = refl; few = omega arith })
+
+general-begun : (s : List ℕ) → Each Begun (generalIn s)
+unfolding generalOf generalFields timesOf
+general-begun s =
+    each-cond Begun (eqb (length (fieldsOf s)) 7 && led generalWord (fieldsOf s)) _
+    (each-parsed Begun (hostIn (partOf 1 (fieldsOf s))) _
+    (λ own. each-number Begun (readNumber (partOf 2 (fieldsOf s))) _
+    (λ port. each-number Begun (readNumber (partOf 3 (fieldsOf s))) _
+    (λ least. each-number Begun (readNumber (partOf 4 (fieldsOf s))) _
+    (λ most. each-number Begun (readNumber (partOf 5 (fieldsOf s))) _
+    (λ t1. each-number Begun (readNumber (partOf 6 (fieldsOf s))) _
+    (λ t2. usable-begun own port least most t1 t2)))))))
+
+-- ---- a `K` line
+abbrev RightCodec : Codec → Type 0
+RightCodec k = rightCodec k ≡ true
+
+codec-right : (t : List ℕ) → Each RightCodec (codecOf t)
+unfolding codecOf payloadOf rightly
+codec-right t =
+    each-either RightCodec (allDigits t) _ _
+    (each-number RightCodec (readNumber t) _ (λ n. each-right RightCodec (rightCodec (fixed n)) (fixed n) (λ h. h)))
+    (each-right RightCodec (rightCodec (named t)) (named t) (λ h. h))
+
+all-more : (ks : List Codec) (k : Codec) → allRight ks ≡ true → rightCodec k ≡ true → allRight (ks ++ (k ∷ [])) ≡ true
+unfolding allRight
+all-more [] k h e = rw e
+all-more (j ∷ ks) k h e =
+    by-bool (rightCodec j) _
+    (λ p. rw p (all-more ks k (rw p at h) e))
+    (λ p. rw p (rw p at h))
+
+added-begun : (c : Configuration) (k : Codec) → Begun c → rightCodec k ≡ true → Each Begun (addedTo c k)
+unfolding addedTo withCodec rightGeneral
+added-begun c k b e =
+    each-right Begun (ltb (length (c .codecs)) mostCodecs) (withCodec c k)
+    (λ h. record { general = b .general; codecs = all-more (c .codecs) k (b .codecs) e; few = rw length-append (omega (arith, ltb-true (length (c .codecs)) mostCodecs h)) })
+
+each-elim : (c : Configuration) → Begun c → (x : Option Codec) → Each RightCodec x → Each Begun (Option·elim x none (addedTo c))
+unfolding Option·elim
+each-elim c b none h = each-none Begun
+each-elim c b (some k) h = added-begun c k b (h .holds k refl)
+
+codec-begun : (c : Configuration) (s : List ℕ) → Begun c → Each Begun (codecIn c s)
+unfolding codecFor
+codec-begun c s b = each-cond Begun (eqb (length (fieldsOf s)) 2) _ (each-elim c b (codecOf (partOf 1 (fieldsOf s))) (codec-right (partOf 1 (fieldsOf s))))
+
+-- ---- the configuration goes on, or the first event comes
+going-right : (room : List ℕ) (whole : Bool) (x : Option Configuration) → Each Begun x → Right (going room (wholly whole x) .next)
+unfolding going wholly silent refusing
+going-right room false x h = tt
+going-right room true none h = tt
+going-right room true (some c) h = h .holds c refl
+
+codecs-right : (c : Configuration) → Begun c → eqb (length (c .codecs)) 0 ≡ false → rightConfiguration c ≡ true
+unfolding rightConfiguration rightCodecs
+codecs-right c b h =
+    let n : (length (c .codecs) ≡ 0 → ⊥) = eqb-false (length (c .codecs)) 0 h in
+    rw (b .general, b .codecs, le-leb 1 (length (c .codecs)) (omega (arith, n)), le-leb (length (c .codecs)) mostCodecs (b .few))
+
+begun-right : (d : Bool) (c : Configuration) (l : Line) (room : List ℕ) → Begun c → Right (begun d c l room .next)
+unfolding begun behind refusing ran lentTo handled judged
+begun-right d c l room b =
+    by-bool (eqb (length (c .codecs)) 0) _
+    (λ h. rw h tt)
+    (λ h. rw h (codecs-right c b h))
+
+-- ---- any line
+pub trace-right : (d : Bool) (t : Trace) (l : Line) (room : List ℕ) → Right t → Right (stepped d t l room .next)
+unfolding stepped silent ran lentTo handled judged
+trace-right d start l room h = going-right room (l .whole) (generalIn (l .text)) (general-begun (l .text))
+trace-right d (configuring c) l room h =
+    by-bool (isCodecLine (l .text)) _
+    (λ p. rw p (going-right room (l .whole) (codecIn c (l .text)) (codec-begun c (l .text) h)))
+    (λ p. rw p (begun-right d c l room h))
+trace-right d (running c k n) l room h = h
+trace-right d stopped l room h = tt
