@@ -7,5 +7,12 @@ fn main() {
     let mut line = [0u8; 1199];
     let mut room = [0u8; 2048];
     let mut out = io::large_buffer();
-    trace_run::run(STDIN_FILENO, false, &mut part, &mut line, &mut room, &mut out);
+    trace_run::run(
+        STDIN_FILENO,
+        false,
+        &mut part,
+        &mut line,
+        &mut room,
+        &mut out,
+    );
 }

@@ -4,10 +4,9 @@ use Prim.Native.Nat.{ℕ, suc, _+_, _-_, _*_, _/_, _%_, _≤_, _<_}
 use mathlib.Core.Path.{_≡_, refl, sym, ap, _∙_}
 use mathlib.Core.List.{List, [], _∷_}
 use mathlib.Core.Bool.{Bool, true, false, _&&_, and-true, and-false, and-eq-true-iff}
-use lib.ListN.{length, getD, take, drop, set, length-set, length-drop, drop-of-length-le}
+use lib.ListN.{length, getD, take, drop, set, length-set, length-drop}
 use lib.Dec.{leb, eqb}
 use lib.Seq.{take-nil, take-at}
-use native.Mathlib.Numerals.{add-one}
 use native.Mathlib.Omega.{arith}
 use borrow.Author.Tests.{lt-ltb, le-ltb, le-leb, lt-leb, eq-eqb, leb-true}
 use Rattle.octets.specs.Append.{nextOf, appended, Appends}
@@ -163,7 +162,6 @@ pub octets-start : (t l : List ℕ) → restFits t 0 (length l) ≡ (isHex t && 
 octets-start t l = let z : length l - 0 ≡ length l = omega arith in rw z
 
 pub ruleset readings = (octets-start, octets-full, octets-first, octets-second, octets-done)
-
 
 -- ---- what the answer says
 both : (a b : Bool) → (a && b) ≡ true → (a ≡ true) × (b ≡ true)

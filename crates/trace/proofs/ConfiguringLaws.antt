@@ -19,22 +19,16 @@ use Rattle.configuration.specs.declared.Entry.{Entry}
 use Rattle.configuration.specs.Configuration.{Codec, Configuration, entryIn}
 use Rattle.configuration.specs.Meaning.{codecBy, codecsBy, configurationBy, entryBy}
 use Rattle.endpoint.specs.declared.Endpoint.{Endpoint}
-use Rattle.endpoint.specs.declared.Opening.{Opening}
-use Rattle.endpoint.specs.Call.{Opens}
 use Rattle.endpoint.specs.Step.{bookOf}
 use Rattle.trace_read.specs.declared.Configured.{Configured}
 use Rattle.trace_read.specs.Configuring.{isCodecLine, codecIn, generalIn}
 use Rattle.trace_read.specs.Meaning.{configuredBy}
 use Rattle.trace_write.specs.Lines.{headerLine, refusedLine}
-use Rattle.trace.specs.declared.Phase.{Phase}
 use Rattle.trace.specs.declared.Phase.the-variants as phase
 use Rattle.trace.specs.declared.Session.{Session}
 use Rattle.trace.specs.declared.Stepped.{Stepped}
-use Rattle.trace.specs.Trace.{Line, Step, configuring, ran, silent, refusing, going, behind, begun, wholly, stepped, ending}
+use Rattle.trace.specs.Trace.{Line, configuring, ran, silent, refusing, going, behind, begun, wholly, stepped, ending}
 use Rattle.trace.specs.Meaning.{traceIn, traceBy, Does, Goes, Keeps, Fresh}
-
-pub fresh-is : (c : Config) (o : Opening) → Opens c o → Fresh c (o .endpoint)
-fresh-is c o h = record { config = h .config; book = rw (h .idle) }
 
 pub kept-is : (c : Config) (e : Endpoint) (at : ℕ) → Fresh c e → Keeps (configurationBy c) at (record { session = record { phase = phase.Configuring; number = 0; endpoint = e }; at = at })
 unfolding going silent traceIn

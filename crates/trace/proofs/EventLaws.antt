@@ -11,7 +11,6 @@ use native.Mathlib.Omega.{arith}
 use borrow.Rule.Slice.PartMut.{midOf, putMid}
 use borrow.Author.Tests.{lt-ltb, le-ltb}
 use Rattle.octets.specs.Append.{Appends}
-use Rattle.octets.specs.Hex.{isHex, octetsOf}
 use Rattle.octets.proofs.AppendLaws.{append-then}
 use Rattle.octets.proofs.AppendLaws as appending
 use Rattle.book.specs.declared.State.{State}
@@ -32,9 +31,9 @@ use Rattle.endpoint.specs.declared.Call.{Call}
 use Rattle.endpoint.specs.declared.Call.the-variants.{SetUp, Change, Release, T1, T2, Message}
 use Rattle.endpoint.specs.declared.Reply.{Reply}
 use Rattle.endpoint.specs.declared.Reply.the-variants.{Refused, Done}
-use Rattle.endpoint.specs.Rule.{Event, Verdict, rule}
+use Rattle.endpoint.specs.Rule.{Event, rule}
 use Rattle.endpoint.specs.Call.{eventOf}
-use Rattle.endpoint.specs.Step.{bookBy, bookOf, written, replyFor, outFor, Gave, Did}
+use Rattle.endpoint.specs.Step.{bookBy, bookOf, replyFor, outFor, Gave, Did}
 use Rattle.endpoint.proofs.VerdictLaws.{held-by}
 use Rattle.notation.specs.Notation.{ReadsOctets}
 use Rattle.notation.proofs.OctetsLaws.{read-back, read-wrong}
@@ -48,9 +47,8 @@ use Rattle.trace_write.specs.Words.{kindWord}
 use Rattle.trace_write.specs.Lines.{kindOf, headText, eventText}
 use Rattle.trace_write.specs.Detail.{detailText}
 use Rattle.trace.specs.declared.Phase.the-variants.{Running}
-use Rattle.trace.specs.declared.Session.{Session}
 use Rattle.trace.specs.declared.Stepped.{Stepped}
-use Rattle.trace.specs.Trace.{Line, Step, verdictOn, octetsIn, lineText, judged, handled, askedIn, lentTo, following, ran}
+use Rattle.trace.specs.Trace.{verdictOn, octetsIn, lineText, judged, handled, askedIn, lentTo, following, ran}
 use Rattle.trace.specs.Meaning.{traceIn, Does, Passes, writtenBy, forceBy, DidFront, Hearable}
 
 -- ---- an endpoint's book

@@ -1,7 +1,7 @@
 -- Whatever lines come, an endpoint that a trace runs has a configuration that can be used: each line of the configuration is judged
 -- when it comes, and the first event finds one codec at least.
 -- Assumes nothing.
-use Prim.Native.Nat.{ℕ, _+_, _≤_, _<_}
+use Prim.Native.Nat.{ℕ, _+_, _≤_}
 use mathlib.Core.Path.{_≡_, refl, subst}
 use mathlib.Core.List.{List, [], _∷_, _++_}
 use mathlib.Core.Bool.{Bool, true, false, _&&_, cond}

@@ -2,7 +2,6 @@
 mod configuring;
 mod events;
 
-ghost use mathlib.Core.List.{[]};
 ghost use mathlib.Core.Path.{_≡_};
 ghost use Rattle.octets.specs.Append.{Appends};
 ghost use Rattle.trace.specs.Trace.{start, stepped, ending};

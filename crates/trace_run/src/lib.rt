@@ -1,4 +1,5 @@
 // A run of a trace over one descriptor: lines in, lines out, to the end of the input.
+ghost use Rattle.trace_run.specs.Run.{SameLengths};
 use line_input::gather;
 use line_output::Output;
 use line_output::flush;
@@ -7,8 +8,8 @@ use octets::spans::up_to;
 use trace::Phase;
 use trace::Session;
 
-// Room that is kept for what one line prints, so that nothing is cut: the line of an event has fewer than 80 octets, and in a
-// detailed trace at most 894 digits of a message and some 1,200 octets of a bearer behind it.
+// Room that is kept for what one line prints, so that nothing is cut. The line of an event has fewer than 80 octets; in a detailed
+// trace at most 894 digits of a message stand behind it, and under 700 octets of a bearer.
 const LINE: usize = 8192;
 
 // What is kept from octet to octet.
@@ -142,7 +143,8 @@ fn finish(state: State, detailed: bool, line: &[u8], room: &mut [u8], out: &mut 
 }
 
 // Answers each line of fd's input, to its end or until the output is not taken. Nothing says that the input ends, so the loop
-// counts its turns down from a number that no run uses up.
+// counts its turns down from a number that no run uses up. What goes through a descriptor no contract can speak of: of the
+// buffers it says that they are as long as they were.
 pub fn run(
     fd: i32,
     detailed: bool,
@@ -150,7 +152,9 @@ pub fn run(
     line: &mut [u8],
     room: &mut [u8],
     out: &mut [u8],
-) {
+)
+    ensures { λ _. ⌜ SameLengths (now (part .entry)) (now (part .exit)) (now (line .entry)) (now (line .exit)) (now (room .entry)) (now (room .exit)) (now (out .entry)) (now (out .exit)) ⌝ }
+{
     let mut st = start();
     let mut turns = u64::MAX;
     while turns > 0 && st.going && st.output.taken {

@@ -6,7 +6,6 @@ use mathlib.Core.Option.{Option, none, some}
 use Rattle.octets.specs.Append.{numberText}
 use Rattle.notation.specs.Notation.{refusedShown}
 use Rattle.book.specs.declared.State.{State}
-use Rattle.book.specs.declared.Notice.{Notice}
 use Rattle.endpoint.specs.declared.Reply.{Reply}
 use Rattle.endpoint.specs.declared.Reply.the-variants.{Refused, Done}
 use Rattle.endpoint.specs.Rule.{Event}

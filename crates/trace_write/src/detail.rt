@@ -6,7 +6,6 @@ ghost use Rattle.media.specs.Meaning.{streamBy, textsBy};
 ghost use Rattle.bearer.specs.Meaning.{bearerBy, heldIf};
 ghost use Rattle.notation.specs.Notation.{octetsShown, textsShown};
 ghost use Rattle.trace_write.specs.Detail.{mediaShown, attributesShown, bearerShown, forceShown, detailText};
-use address::Address;
 use address::write::push_address;
 use bearer::Bearer;
 use media::Stream;

@@ -4,7 +4,7 @@ ghost use mathlib.Core.Option.{none, some};
 ghost use Rattle.octets.specs.Append.{Appends, numberText};
 ghost use Rattle.endpoint.specs.Call as calls;
 ghost use Rattle.notation.specs.Notation.{refusedShown};
-ghost use Rattle.trace_write.specs.Words.{kindWord, badWord, stateWord, noticeWord, droppedWord};
+ghost use Rattle.trace_write.specs.Words.{stateWord, noticeWord, droppedWord};
 ghost use Rattle.trace_write.specs.Lines.{headerLine, refusedLine, headText, nothingText, replyText, eventText};
 use crate::words::push_dropped;
 use crate::words::push_kind;

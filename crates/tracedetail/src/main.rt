@@ -7,5 +7,12 @@ fn main() {
     let mut line = [0u8; 4096];
     let mut room = io::large_buffer();
     let mut out = io::large_buffer();
-    trace_run::run(STDIN_FILENO, true, &mut part, &mut line, &mut room, &mut out);
+    trace_run::run(
+        STDIN_FILENO,
+        true,
+        &mut part,
+        &mut line,
+        &mut room,
+        &mut out,
+    );
 }

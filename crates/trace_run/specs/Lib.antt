@@ -1,0 +1,2 @@
+-- What can be said of a run.
+pub mod Run

@@ -1,0 +1,11 @@
+-- What can be said of a run, which is what it does to the buffers that are lent: they are as long as they were.
+use Prim.Native.Nat.{ℕ}
+use mathlib.Core.Path.{_≡_}
+use mathlib.Core.List.{List}
+use lib.ListN.{length}
+
+pub record SameLengths (part part′ line line′ room room′ out out′ : List ℕ) : Type 0 where
+  pub parts : length part′ ≡ length part
+  pub lines : length line′ ≡ length line
+  pub rooms : length room′ ≡ length room
+  pub outs : length out′ ≡ length out
