@@ -29,7 +29,7 @@ use Rattle.bat.specs.Values.{Value}
 use Rattle.bat.specs.Judging.{Verdict, known, unknown, verdict, says, someSays, dataOutcome, judgedBy, judgedData}
 use Rattle.bat.specs.Meaning.{wholeOf, elementIn, frontIn, WholeLength, valueIn, outcomeNumber, judgementIn, verdictIn, dataNumber, toldBy, toldOf, countOf}
 use Rattle.bat.proofs.WalkLaws.{front-nil, fold-ended, fold-unframed, fold-first, by-front}
-use Rattle.bat.proofs.DataLaws.{elements-ended, elements-unframed, elements-first}
+use Rattle.bat.proofs.DataLaws.{elements-ended, elements-unframed, elements-first, taken-is}
 use Rattle.bat.proofs.CountLaws.{place-fits, place-falls}
 use Rattle.bat_read.specs.declared.Examined.{Examined}
 use Rattle.bat_read.specs.declared.Examined.the-variants.{Element as ElementAt, Unframed as NoFrame, Ended as NoMore}
@@ -251,20 +251,6 @@ module _ (pass : Bool) where
 pub ruleset outcomes = (outcome-end, outcome-ended, outcome-unframed, outcome-more)
 
 -- ---- the answer to the data
-cut-taken : (entries : ℕ) (s : List ℕ) (o : Option (List Element)) (es : List Element) → elements s ≡ o → cut entries s ≡ taken es → elements s ≡ some es
-unfolding cut roomFor Option·elim
-cut-taken entries s o es q p =
-    by-lt mostOctets (length s) _
-    (λ h. let z : refused 1 ≡ taken es = rw (lt-ltb mostOctets (length s) h) at p in absurd (let z : _≡_ {A = ℕ} 0 1 = cc in omega arith))
-    (λ h. q ∙ go o (rw (le-ltb mostOctets (length s) h, q) at p))
-  where
-    go : (o : Option (List Element)) → Option·elim o (refused 2) (roomFor entries) ≡ taken es → o ≡ some es
-    go none p = absurd (let z : _≡_ {A = ℕ} 0 1 = cc in omega arith)
-    go (some fs) p =
-        by-lt entries (length fs) _
-        (λ h. let z : refused 3 ≡ taken es = rw (lt-ltb entries (length fs) h) at p in absurd (let z : _≡_ {A = ℕ} 0 1 = cc in omega arith))
-        (λ h. let z : taken fs ≡ taken es = rw (le-ltb entries (length fs) h) at p in let k : fs ≡ es = cc in rw k)
-
 module _ (s : List ℕ) (entries : ℕ) (pass : Bool) (y : Counted) (is : y ≡ countOf (cut entries s)) where
   told-by : (x : Cut) → cut entries s ≡ x → toldOf (judgedData pass entries s) ≡ toldOf (judgedBy pass x)
   unfolding judgedData
@@ -287,7 +273,7 @@ module _ (s : List ℕ) (entries : ℕ) (pass : Bool) (y : Counted) (is : y ≡ 
       go (taken es) q =
           let k : y ≡ Elements (length es) = rw q at is in
           let z : n ≡ length es = cc in
-          let a : dataNumber o ≡ dataOutcome (map (verdict pass) es) = g ∙ gravest-outcome pass s es (cut-taken entries s (elements s) es refl q) in
+          let a : dataNumber o ≡ dataOutcome (map (verdict pass) es) = g ∙ gravest-outcome pass s es (taken-is entries s es q .are) in
           rw (z, a, ← length-map es (verdict pass)) (sym (told-by (taken es) q))
 
 pub ruleset telling = (told-refused, told-taken)

@@ -9,26 +9,14 @@ use mathlib.Core.Option.{Option, none, some, Option·map}
 use native.Mathlib.Omega.{arith}
 use Rattle.bat.specs.Framing.{Element, Front, front, first, unframed, ended, onFront, elements}
 use Rattle.bat.specs.Judging.{verdict}
-use Rattle.bat.proofs.DataLaws.{elements-ended, elements-unframed, elements-first}
+use Rattle.bat.proofs.DataLaws.{elements-unframed, elements-first, elements-next}
 use Rattle.bat_read.specs.Examining.{element, noMore, examine}
 
-map-some : (e d : Element) (o : Option (List Element)) (es : List Element) → Option·map (λ (r : List Element). d ∷ r) o ≡ some (e ∷ es) → (d ≡ e) × (o ≡ some es)
-map-some e d none es p = absurd (let z : _≡_ {A = ℕ} 0 1 = cc in omega arith)
-map-some e d (some r) es p = let q : d ∷ r ≡ e ∷ es = cc in let k : r ≡ es = cc in (cc, rw k)
-
 module _ (pass : Bool) (s : List ℕ) where
-  next-at : (f : Front) → front s ≡ f → (e : Element) (es : List Element) → elements s ≡ some (e ∷ es)
-      → (t : List ℕ) × (examine pass s ≡ element e (verdict pass e) t) × (elements t ≡ some es)
-  unfolding examine onFront
-  next-at (first d t) q e es p =
-      let (is, rest) = map-some e d (elements t) es (sym (elements-first s d t q) ∙ p) in
-      (t, rw (q, is), rest)
-  next-at unframed q e es p = absurd (let n = elements-unframed s q in let z : _≡_ {A = ℕ} 0 1 = cc in omega arith)
-  next-at ended q e es p = absurd (let n = elements-ended s q in let z : _≡_ {A = ℕ} 0 1 = cc in omega arith)
-
   pub examine-next : (e : Element) (es : List Element) → elements s ≡ some (e ∷ es)
       → (t : List ℕ) × (examine pass s ≡ element e (verdict pass e) t) × (elements t ≡ some es)
-  examine-next e es p = next-at (front s) refl e es p
+  unfolding examine onFront
+  examine-next e es p = let (t, q, rest) = elements-next s e es p in (t, rw q, rest)
 
   none-at : (f : Front) → front s ≡ f → elements s ≡ some [] → examine pass s ≡ noMore
   unfolding examine onFront

@@ -1,0 +1,4 @@
+-- The laws of the table of element entries.
+pub mod StepLaws
+pub mod FillLaws
+pub mod Parts

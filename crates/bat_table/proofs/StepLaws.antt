@@ -1,0 +1,57 @@
+-- A step finds the element at a place of the data, and goes to the place behind it.
+-- Assumes nothing.
+use Prim.Native.Nat.{ℕ, _+_, _^_, _<_}
+use mathlib.Core.Path.{_≡_, refl, sym, ap, _∙_}
+use mathlib.Core.List.{List, [], _∷_}
+use mathlib.Core.Logic.{⊎-elim}
+use mathlib.Core.Option.{some}
+use lib.ListN.{length, drop, length-drop}
+use mir.Syntax.{w64}
+use mir.Val.{Fits}
+use denote.Enum.Declared.{tagOf}
+use types.Run.{OneOf}
+use native.Mathlib.Omega.{arith}
+use Rattle.bat.specs.declared.Counted.{Counted}
+use Rattle.bat.specs.declared.Counted.the-variants.{Elements, Refused}
+use Rattle.bat.specs.declared.Frame.{Frame}
+use Rattle.bat.specs.declared.Framed.{Framed}
+use Rattle.bat.specs.declared.Framed.the-variants.{Whole, Unframed, Ended}
+use Rattle.bat.specs.Framing.{Front, whole, front, first, unframed, ended, onFront}
+use Rattle.bat.specs.Meaning.{elementIn, frontIn, WholeLength}
+use Rattle.bat.proofs.Framed.{the-type}
+use Rattle.bat.proofs.CountLaws.{frame-ended, frame-unframed, frame-inside, frame-first, frame-length, frame-some}
+use Rattle.bat_table.specs.declared.Step.{Step}
+use Rattle.bat_table.specs.Table.{entryOf}
+use Rattle.bat_table.specs.Steps.{codeBy, stayAt, stepAt}
+
+-- ---- a step
+module _ (s : List ℕ) (at : ℕ) where
+  step-unframed : front (drop at s) ≡ unframed → stayAt at ≡ stepAt s at
+  unfolding stepAt onFront
+  step-unframed h = rw h
+
+  step-ended : front (drop at s) ≡ ended → stayAt at ≡ stepAt s at
+  unfolding stepAt onFront
+  step-ended h = rw h
+
+  module _ (t : List ℕ) (here : t ≡ drop at s) (x : Framed) (is : frontIn t x ≡ some (front t)) where
+    -- no element is whole there
+    pub step-none : OneOf (1 ∷ 2 ∷ []) (tagOf the-type x) → stayAt at ≡ stepAt s at
+    step-none h = go x refl h
+      where
+        go : (y : Framed) → x ≡ y → OneOf (1 ∷ 2 ∷ []) (tagOf the-type y) → stayAt at ≡ stepAt s at
+        go (Whole f) e h = ⊎-elim (λ z. absurd (omega (arith, z))) (λ z. absurd (omega (arith, z))) h
+        go Unframed e h = step-unframed (rw here at (frame-unframed t x is e))
+        go Ended e h = step-ended (rw here at (frame-ended t x is e))
+
+    module _ (f : Frame) (e : x ≡ Whole f) (w : ℕ) (l : WholeLength f w) where
+      pub step-fits : length s < 2 ^ 64 → Fits w64 (at + w)
+      step-fits h = omega (arith, frame-inside t x is f e w l, frame-some t x is f e w l, ap (λ (z : List ℕ). length z) here, length-drop at s)
+
+      pub step-whole : _≡_ {A = Step} (record { entry = record { identifier = f .identifier; start = at; length = w }; next = at + w }) (stepAt s at)
+      unfolding stepAt onFront elementIn
+      step-whole = rw (← here, frame-first t x is f e w l, frame-length t x is f e w l)
+
+-- ---- an answer as one number
+pub code-refused : (c : Counted) (k n : ℕ) → c ≡ Refused k → n ≡ k → 65536 + n ≡ codeBy c
+code-refused c k n e h = rw (e, h)

@@ -1,0 +1,24 @@
+-- For the code alone: what an answer stores, an answer as one number, and the step from an element of the data to the next.
+use Prim.Native.Nat.{ℕ, _+_}
+use mathlib.Core.List.{List}
+use lib.ListN.{length, drop}
+use Rattle.bat.specs.declared.Counted.{Counted}
+use Rattle.bat.specs.declared.Counted.the-variants.{Elements, Refused}
+use Rattle.bat.specs.Framing.{whole, front, onFront}
+use Rattle.bat_table.specs.declared.Step.{Step}
+use Rattle.bat_table.specs.Table.{entryOf, noEntry}
+
+abbrev pub storedBy : Counted → ℕ
+storedBy (Elements n) = n
+storedBy (Refused k) = 0
+
+abbrev pub codeBy : Counted → ℕ
+codeBy (Elements n) = n
+codeBy (Refused k) = 65536 + k
+
+-- where there is no element
+abbrev pub stayAt : ℕ → Step
+stayAt at = record { entry = noEntry; next = at }
+
+unfoldable pub stepAt : List ℕ → ℕ → Step
+stepAt s at = onFront (front (drop at s)) (λ e t. record { entry = entryOf at e; next = at + length (whole e) }) (stayAt at) (stayAt at)

@@ -1,0 +1,38 @@
+-- Document 01, "Elements", its second paragraph: the table of element entries that a caller lends. It is filled in order, one
+-- entry for each element of the data. How data is cut into elements, and numbers 1, 2 and 3, are in `Framing` of `bat`.
+use Prim.Native.Nat.{ℕ, _+_}
+use mathlib.Core.List.{List, [], _∷_, _++_}
+use lib.ListN.{length, take, drop}
+use Rattle.bat.specs.Framing.{Element, head, whole, Cut, refused, taken, cut}
+use Rattle.bat_table.specs.declared.Entry.{Entry}
+
+-- an element whose identifier octet stands at d of the data; its length is that of all its octets
+abbrev pub entryOf : ℕ → Element → Entry
+entryOf d e = record { identifier = e .identifier; start = d; length = length (whole e) }
+
+-- elements one behind the other, of which the first stands at d
+unfoldable pub entriesFrom : ℕ → List Element → List Entry
+entriesFrom d [] = []
+entriesFrom d (e ∷ es) = entryOf d e ∷ entriesFrom (d + length (whole e)) es
+
+-- What becomes of the table ys. Data that is refused leaves it as it was; else its entries stand at the front, and those beyond
+-- their count are untouched.
+unfoldable pub filledBy : Cut → List Entry → List Entry
+filledBy (refused n) ys = ys
+filledBy (taken es) ys = entriesFrom 0 es ++ drop (length es) ys
+
+unfoldable pub tableAfter : List ℕ → List Entry → List Entry
+tableAfter s ys = filledBy (cut (length ys) s) ys
+
+-- the octets of the data s that an entry names
+abbrev pub partOf : List ℕ → Entry → List ℕ
+partOf s x = take (x .length) (drop (x .start) s)
+
+-- what stands for an entry where there is none
+abbrev pub noEntry : Entry
+noEntry = record { identifier = 0; start = 0; length = 0 }
+
+-- For C: the count of elements, or document 01's number and 65536, which no count reaches.
+unfoldable pub codeOf : Cut → ℕ
+codeOf (refused n) = 65536 + n
+codeOf (taken es) = length es

@@ -1,0 +1,69 @@
+// The table of element entries that a caller lends, filled in order. What goes over a table is proved
+// by a walk of its code, by hand: so there are few such functions, and they are thin. Everything that
+// looks at the data is in `bat::framing` and in `steps`.
+mod steps;
+
+ghost use mathlib.Core.Path.{_≡_};
+ghost use lib.ListN.{length, getD};
+ghost use Rattle.bat.specs.Framing.{cut};
+ghost use Rattle.bat.specs.Meaning.{countOf};
+ghost use Rattle.bat_table.specs.Table.{noEntry, tableAfter, codeOf};
+use bat::Counted;
+
+// Where an element is: its identifier, the place of its identifier octet in the data, and how many
+// octets the whole element has.
+#[repr(C)]
+pub struct Entry {
+    pub identifier: u8,
+    pub start: usize,
+    pub length: usize,
+}
+
+// An element's entry, and the place behind the element.
+struct Step {
+    entry: Entry,
+    next: usize,
+}
+
+// The entries of the data's elements are stored at the front of the table, in order, and their count is
+// answered; or the number that refuses the data, and the table stays as it was: 1 where the data is
+// too long, 2 where it can't be framed, 3 where the table is too small.
+pub fn store_elements(data: &[u8], table: &mut [Entry]) -> Counted
+    ensures { λ r. ⌜ (r ≡ countOf (cut (length (now (table .entry))) (now («data» .entry)))) × (now (table .exit) ≡ tableAfter (now («data» .entry)) (now (table .entry))) ⌝ }
+{
+    let answer = bat::framing::count(data, table.len());
+    let n = steps::stored(answer);
+    let mut at = 0;
+    let mut i = 0;
+    while i < n {
+        let s = steps::step_at(data, at);
+        table[i] = s.entry;
+        at = s.next;
+        i += 1;
+    }
+    answer
+}
+
+// The entry of this number, counted from 0; where the table has none, one of no octets, which no
+// element has.
+pub fn entry_at(table: &[Entry], i: usize) -> Entry
+    ensures { λ r. ⌜ r ≡ getD (now (table .entry)) i noEntry ⌝ }
+{
+    if i < table.len() {
+        return table[i];
+    }
+    Entry {
+        identifier: 0,
+        start: 0,
+        length: 0,
+    }
+}
+
+// `store_elements` for C. Its answer is one number: the count, or 65536 and the number that refuses
+// the data.
+#[no_mangle]
+pub extern "C" fn bat_table_store(data: &[u8], table: &mut [Entry]) -> usize
+    ensures { λ r. ⌜ (r ≡ codeOf (cut (length (now (table .entry))) (now («data» .entry)))) × (now (table .exit) ≡ tableAfter (now («data» .entry)) (now (table .entry))) ⌝ }
+{
+    steps::code(store_elements(data, table))
+}

@@ -1,0 +1,56 @@
+// From one element of the data to the next, for every place: what the functions over a table call.
+ghost use mathlib.Core.Path.{_≡_};
+ghost use Rattle.bat_table.specs.Steps.{storedBy, codeBy, stepAt};
+use crate::Entry;
+use crate::Step;
+use bat::Counted;
+use bat::Framed;
+
+// How many entries an answer stores.
+pub fn stored(c: Counted) -> usize
+    ensures { λ r. ⌜ r ≡ storedBy c ⌝ }
+{
+    match c {
+        Counted::Elements(n) => n,
+        Counted::Refused(_) => 0,
+    }
+}
+
+// An answer as one number.
+pub fn code(c: Counted) -> usize
+    ensures { λ r. ⌜ r ≡ codeBy c ⌝ }
+{
+    match c {
+        Counted::Elements(n) => n,
+        Counted::Refused(k) => 65536 + k as usize,
+    }
+}
+
+// The entry of the element at a place of the data, and the place behind it. Where no element can be
+// framed, an entry of no octets, and the same place.
+pub fn step_at(data: &[u8], at: usize) -> Step
+    ensures { λ r. ⌜ r ≡ stepAt (now («data» .entry)) at ⌝ }
+{
+    let x = bat::framing::first_element(octets::spans::after(data, at));
+    let Framed::Whole(f) = x else {
+        let none = Entry {
+            identifier: 0,
+            start: 0,
+            length: 0,
+        };
+        return Step {
+            entry: none,
+            next: at,
+        };
+    };
+    let length = bat::framing::whole_length(f);
+    let entry = Entry {
+        identifier: f.identifier,
+        start: at,
+        length: length,
+    };
+    Step {
+        entry: entry,
+        next: at + length,
+    }
+}
