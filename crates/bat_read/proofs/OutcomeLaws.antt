@@ -4,14 +4,14 @@ use Prim.Native.Nat.{ℕ, _+_, _-_, _^_, _≤_, _<_, max}
 use mathlib.Core.Path.{_≡_, refl, sym, _∙_}
 use mathlib.Core.List.{List, [], _∷_, map}
 use mathlib.Core.Bool.{Bool, true, false, _||_, cond}
-use mathlib.Core.Option.{Option, none, some, Option·map, Option·elim}
+use mathlib.Core.Option.{Option, none, some, Option·map}
 use lib.ListN.{length, drop, length-map, drop-of-length-le}
 use lib.Seq.{drop-drop}
 use mir.Syntax.{w64}
 use mir.Val.{Fits}
 use native.Mathlib.Omega.{arith}
-use borrow.Author.Tests.{le-leb, lt-leb, lt-ltb, le-ltb}
-use Rattle.octets.proofs.CaseLaws.{by-le, by-lt}
+use borrow.Author.Tests.{le-leb, lt-leb}
+use Rattle.octets.proofs.CaseLaws.{by-le}
 use Rattle.bat.specs.declared.Frame.{Frame}
 use Rattle.bat.specs.declared.Framed.the-variants.{Whole}
 use Rattle.bat.specs.declared.Counted.{Counted}
@@ -24,7 +24,7 @@ use Rattle.bat.specs.declared.Verdict.the-variants.{Recognised, Unknown}
 use Rattle.bat.specs.declared.DataOutcome.{DataOutcome}
 use Rattle.bat.specs.declared.DataOutcome.the-variants.{Neither, DiscardAll, ReleaseAll}
 use Rattle.bat.specs.declared.DataAnswer.the-variants.{Refused as RefusedData, Taken}
-use Rattle.bat.specs.Framing.{Element, Front, front, first, unframed, ended, onFront, elements, Cut, refused, taken, mostOctets, roomFor, cut}
+use Rattle.bat.specs.Framing.{Element, Front, front, first, unframed, ended, onFront, elements, Cut, refused, taken, cut}
 use Rattle.bat.specs.Values.{Value}
 use Rattle.bat.specs.Judging.{Verdict, known, unknown, verdict, says, someSays, dataOutcome, judgedBy, judgedData}
 use Rattle.bat.specs.Meaning.{wholeOf, elementIn, frontIn, WholeLength, valueIn, outcomeNumber, judgementIn, verdictIn, dataNumber, toldBy, toldOf, countOf}

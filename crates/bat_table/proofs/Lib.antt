@@ -2,3 +2,4 @@
 pub mod StepLaws
 pub mod FillLaws
 pub mod Parts
+pub mod Room

@@ -1,14 +1,13 @@
 -- The part of the data that an entry names is its element, as it can be passed on; and a count is never taken for a refusal.
 -- Assumes nothing.
-use Prim.Native.Nat.{ℕ, suc, _+_, _≤_, _<_}
+use Prim.Native.Nat.{ℕ, _+_, _≤_, _<_}
 use mathlib.Core.Path.{_≡_, refl, sym, ap, ap₂, _∙_}
-use mathlib.Core.List.{List, [], _∷_, _++_, map, flatMap}
-use lib.ListN.{length, take, drop, length-append}
+use mathlib.Core.List.{List, [], _∷_, map, flatMap}
+use lib.ListN.{length, drop, length-append}
 use lib.Seq.{drop-drop, drop-at, take-at}
 use native.Mathlib.Omega.{arith}
-use Rattle.bat.specs.Framing.{Element, whole, head, elements, taken, cut}
+use Rattle.bat.specs.Framing.{Element, whole, head, taken, cut}
 use Rattle.bat.proofs.DataLaws.{laid, taken-is}
-use Rattle.bat_table.specs.declared.Entry.{Entry}
 use Rattle.bat_table.specs.Table.{entryOf, entriesFrom, partOf, codeOf}
 
 parts-from : (s : List ℕ) (d : ℕ) (es : List Element) → flatMap whole es ≡ drop d s → map (partOf s) (entriesFrom d es) ≡ map whole es

@@ -1,7 +1,7 @@
--- A step finds the element at a place of the data, and goes to the place behind it.
+-- What is to be done with the data, and the step that finds the element at a place of it and goes to the place behind that.
 -- Assumes nothing.
 use Prim.Native.Nat.{ℕ, _+_, _^_, _<_}
-use mathlib.Core.Path.{_≡_, refl, sym, ap, _∙_}
+use mathlib.Core.Path.{_≡_, refl, ap}
 use mathlib.Core.List.{List, [], _∷_}
 use mathlib.Core.Logic.{⊎-elim}
 use mathlib.Core.Option.{some}
@@ -12,17 +12,21 @@ use denote.Enum.Declared.{tagOf}
 use types.Run.{OneOf}
 use native.Mathlib.Omega.{arith}
 use Rattle.bat.specs.declared.Counted.{Counted}
-use Rattle.bat.specs.declared.Counted.the-variants.{Elements, Refused}
+use Rattle.bat.specs.declared.Counted.the-variants.{Refused}
 use Rattle.bat.specs.declared.Frame.{Frame}
 use Rattle.bat.specs.declared.Framed.{Framed}
 use Rattle.bat.specs.declared.Framed.the-variants.{Whole, Unframed, Ended}
-use Rattle.bat.specs.Framing.{Front, whole, front, first, unframed, ended, onFront}
-use Rattle.bat.specs.Meaning.{elementIn, frontIn, WholeLength}
+use Rattle.bat.specs.Framing.{whole, front, unframed, ended, onFront, cut}
+use Rattle.bat.specs.Meaning.{elementIn, frontIn, WholeLength, countOf}
 use Rattle.bat.proofs.Framed.{the-type}
 use Rattle.bat.proofs.CountLaws.{frame-ended, frame-unframed, frame-inside, frame-first, frame-length, frame-some}
+use Rattle.bat_table.specs.declared.Plan.{Plan}
 use Rattle.bat_table.specs.declared.Step.{Step}
-use Rattle.bat_table.specs.Table.{entryOf}
-use Rattle.bat_table.specs.Steps.{codeBy, stayAt, stepAt}
+use Rattle.bat_table.specs.Steps.{storedBy, codeBy, planFor, stayAt, stepAt}
+
+-- ---- what is to be done
+pub plan-is : (entries : ℕ) (s : List ℕ) (c : Counted) (n : ℕ) → c ≡ countOf (cut entries s) → n ≡ storedBy c → _≡_ {A = Plan} (record { answer = c; stored = n }) (planFor entries s)
+plan-is entries s c n e h = rw (h, e)
 
 -- ---- a step
 module _ (s : List ℕ) (at : ℕ) where

@@ -1,10 +1,13 @@
--- For the code alone: what an answer stores, an answer as one number, and the step from an element of the data to the next.
+-- For the code alone: what an answer stores, an answer as one number, what is to be done with the data, and the step from one
+-- of its elements to the next.
 use Prim.Native.Nat.{ℕ, _+_}
 use mathlib.Core.List.{List}
 use lib.ListN.{length, drop}
 use Rattle.bat.specs.declared.Counted.{Counted}
 use Rattle.bat.specs.declared.Counted.the-variants.{Elements, Refused}
-use Rattle.bat.specs.Framing.{whole, front, onFront}
+use Rattle.bat.specs.Framing.{whole, front, onFront, cut}
+use Rattle.bat.specs.Meaning.{countOf}
+use Rattle.bat_table.specs.declared.Plan.{Plan}
 use Rattle.bat_table.specs.declared.Step.{Step}
 use Rattle.bat_table.specs.Table.{entryOf, noEntry}
 
@@ -15,6 +18,9 @@ storedBy (Refused k) = 0
 abbrev pub codeBy : Counted → ℕ
 codeBy (Elements n) = n
 codeBy (Refused k) = 65536 + k
+
+abbrev pub planFor : ℕ → List ℕ → Plan
+planFor entries s = record { answer = countOf (cut entries s); stored = storedBy (countOf (cut entries s)) }
 
 -- where there is no element
 abbrev pub stayAt : ℕ → Step

@@ -3,7 +3,7 @@
 use Prim.Native.Nat.{ℕ, _+_}
 use mathlib.Core.List.{List, [], _∷_, _++_}
 use lib.ListN.{length, take, drop}
-use Rattle.bat.specs.Framing.{Element, head, whole, Cut, refused, taken, cut}
+use Rattle.bat.specs.Framing.{Element, whole, Cut, refused, taken, cut}
 use Rattle.bat_table.specs.declared.Entry.{Entry}
 
 -- an element whose identifier octet stands at d of the data; its length is that of all its octets

@@ -19,6 +19,12 @@ pub struct Entry {
     pub length: usize,
 }
 
+// What is to be done: the answer to the data, and how many entries are stored.
+struct Plan {
+    answer: Counted,
+    stored: usize,
+}
+
 // An element's entry, and the place behind the element.
 struct Step {
     entry: Entry,
@@ -31,17 +37,16 @@ struct Step {
 pub fn store_elements(data: &[u8], table: &mut [Entry]) -> Counted
     ensures { λ r. ⌜ (r ≡ countOf (cut (length (now (table .entry))) (now («data» .entry)))) × (now (table .exit) ≡ tableAfter (now («data» .entry)) (now (table .entry))) ⌝ }
 {
-    let answer = bat::framing::count(data, table.len());
-    let n = steps::stored(answer);
+    let plan = steps::plan_for(data, table.len());
     let mut at = 0;
     let mut i = 0;
-    while i < n {
+    while i < plan.stored {
         let s = steps::step_at(data, at);
         table[i] = s.entry;
         at = s.next;
         i += 1;
     }
-    answer
+    plan.answer
 }
 
 // The entry of this number, counted from 0; where the table has none, one of no octets, which no

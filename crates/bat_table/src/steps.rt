@@ -1,13 +1,14 @@
 // From one element of the data to the next, for every place: what the functions over a table call.
 ghost use mathlib.Core.Path.{_≡_};
-ghost use Rattle.bat_table.specs.Steps.{storedBy, codeBy, stepAt};
+ghost use Rattle.bat_table.specs.Steps.{storedBy, codeBy, planFor, stepAt};
 use crate::Entry;
+use crate::Plan;
 use crate::Step;
 use bat::Counted;
 use bat::Framed;
 
 // How many entries an answer stores.
-pub fn stored(c: Counted) -> usize
+fn stored(c: Counted) -> usize
     ensures { λ r. ⌜ r ≡ storedBy c ⌝ }
 {
     match c {
@@ -23,6 +24,18 @@ pub fn code(c: Counted) -> usize
     match c {
         Counted::Elements(n) => n,
         Counted::Refused(k) => 65536 + k as usize,
+    }
+}
+
+// What is to be done with the data, where a table of so many entries is lent.
+pub fn plan_for(data: &[u8], entries: usize) -> Plan
+    ensures { λ r. ⌜ r ≡ planFor entries (now («data» .entry)) ⌝ }
+{
+    let answer = bat::framing::count(data, entries);
+    let n = stored(answer);
+    Plan {
+        answer: answer,
+        stored: n,
     }
 }
 

@@ -1,8 +1,8 @@
--- `bat_table::entry_at` meets its contract: a walk of its MIR, by hand. Where the place is in the table, the slice is looked into, one entry is taken out of the row, read and put back; elsewhere an empty entry is made.
+-- `bat_table::entry_at` meets its contract: a walk of its MIR, by hand. Where the table has the entry, the slice is looked into, the
+-- entry is taken out of the row, read and put back; elsewhere an entry of no octets is made.
 -- Assumes nothing.
 use mathlib.Core.Path.{_≡_, refl, sym}
-use Prim.Native.Nat.{ℕ, _<_, _^_, _*_}
-use native.Mathlib.Omega.{arith}
+use Prim.Native.Nat.{ℕ, _<_, _^_}
 use mathlib.Core.List.{[], _∷_, List}
 use lib.ListN.{length, getD, List·getD-eq-default}
 use lib.Dec.{T as Holds, lit<, ltb→lt, nltb→le}
@@ -40,6 +40,7 @@ use denote.Triple.Walked.{says, Stays, stay-none-slice, stay-none, walkOf, goes-
 use denote.Exit.{yes}
 use Rattle.bat_table.specs.declared.Entry.{Entry}
 use Rattle.bat_table.specs.Table.{noEntry}
+use Rattle.bat_table.proofs.Room.{place-fits}
 use Rattle.bat_table.proofs.Entry as T
 use Rattle.bat_table.proofs.Entry.Laws as T′
 use Rattle.bat_table.proofs.entry_at.Key.{name as #bat_table·entry-at}
@@ -50,10 +51,6 @@ use Rattle.bat_table.proofs.entry_at.Code.Mir as mir′
 
 abbrev stayed : Stays (f.ended .signature .params) (f.ended .kept)
 stayed = (stay-none-slice (0 ∷ []) tt (plain (λ _. T.the-row)) yes, (stay-none (λ _. usize) yes, tt))
-
--- the place of an entry fits
-place-fits : {i n : ℕ} → Room T.the-row n → i < n → i * 24 < 2 ^ 64
-place-fits room l = omega (arith, room .1)
 
 module _ {M : Type 1} (𝓤 : URA M) (H : Heap 𝓤) (A : Atoms 𝓤) (W : Given 𝓤 H A) (at-mem : Memory → SProp 𝓤) (run : Routine → Fun 𝓤) (κ : Lft) (q : Share) (b o : ℕ) (γ : GName) (ys : List Entry) (i : ℕ) where
   abbrev x : RefT (List Entry)

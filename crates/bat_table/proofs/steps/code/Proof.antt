@@ -1,31 +1,25 @@
+-- `steps::code` meets its contract: by the two answers.
+-- Assumes nothing.
 use Rattle.bat_table.proofs.StepLaws.{code-refused}
 use borrow.Author.Needs.{needs}
 use Rattle.bat_table.proofs.steps.code.Statement.{statement}
 use Rattle.bat_table.proofs.steps.code.Tie as tie
-use Rattle.bat_table.proofs.steps.code.Reads as reads
-use Rattle.bat_table.proofs.steps.code.Lts as lts
 
--- src/steps.rt:24:27
 enum-known-c : tie.Need-enum-known-c
 enum-known-c c = search needs
 
--- src/steps.rt:25:26
 enum-known-c-2 : tie.Need-enum-known-c-2
 enum-known-c-2 c = search needs
 
--- src/steps.rt:25:40
 cast-result : tie.Need-cast-result
 cast-result c = search needs
 
--- src/steps.rt:25:32
 add-result : tie.Need-add-result
 add-result c = search needs
 
--- src/steps.rt:20:1
 returns : tie.Need-returns
 returns c = search needs
 
--- src/steps.rt:20:1
 returns-2 : tie.Need-returns-2
 returns-2 c = search (code-refused, needs)
 
