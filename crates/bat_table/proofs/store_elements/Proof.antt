@@ -113,6 +113,10 @@ module _ {M : Type 1} (𝓤 : URA M) (H : Heap 𝓤) (A : Atoms 𝓤) (W : Given
   abbrev a : Arg
   a = (d, (x ys, tt))
 
+  -- what is to be done
+  abbrev p : Plan
+  p = planFor n ds
+
   -- the machine values: each slice's pointer and count
   abbrev v : Val
   v = sliceVal (d .ptr) (length ds)
@@ -130,37 +134,27 @@ module _ {M : Type 1} (𝓤 : URA M) (H : Heap 𝓤) (A : Atoms 𝓤) (W : Given
   abbrev Own : Fml
   Own = ShrSlice (named 0) κ u8 .own d (v ∷ [])
 
-  -- ---- the calls
-  -- a function that takes the data and a number is passed a copy of the slice
-  lend : (m : ℕ) → m < 2 ^ 64 → (P : SProp 𝓤)
-      → ent 𝓤 (⋆ 𝓤 H A ((‵ (flft κ q) ⊛ ‵ ftrue) ∷ ‵ (owns (ShrSlice (named 0) κ u8 ∷ usize ∷ []) (d, (m, tt)) (v ∷ [], (vint w64 m ∷ [], tt))) ∷ [])) P
-      → ent 𝓤 (sep 𝓤 (A .lft κ q) (sem 𝓤 H A Own)) (sep 𝓤 P (sem 𝓤 H A Own))
-  lend m fits P asked =
+  -- ---- the calls: both functions take the data, of which each is passed a copy of the slice, and a number
+  abbrev to-plan : ℕ → PlanFor 𝓤 H A mem run .Ghost
+  to-plan m = (((κ, tt), (q, tt), tt, (d, (m, tt)), (v ∷ [], (vint w64 m ∷ [], tt))), tt)
+
+  abbrev to-step : ℕ → StepAt 𝓤 H A mem run .Ghost
+  to-step m = to-plan m
+
+  goes : (m : ℕ) → m < 2 ^ 64 → ent 𝓤 (sep 𝓤 (A .lft κ q) (sem 𝓤 H A Own)) (sep 𝓤 (PlanFor 𝓤 H A mem run .pre (to-plan m)) (sem 𝓤 H A Own))
+  goes m fits =
       qed W (‵ (flft κ q) ∷ ‵ Own ∷ []) ∵ move ! (1 ∷ []) $ use1 W (‵ Own ⊛ ‵ Own) (shr-slice-copy 𝓤 H A W (named 0) κ u8 .twice d (v ∷ [])) $ split ! $
       nothing ! $ owned ! usize (Is usize) (uint-makes 𝓤 H A W w64) m _ (refl, fits) $ fjoin ! $ move ! (1 ∷ 0 ∷ []) $ fjoin ! $
-      nothing ! $ move ! (3 ∷ 0 ∷ []) $ join ! $ use2 W (raw P) asked $ frame ! $ done !
-
-  -- what is to be done
-  abbrev p : Plan
-  p = planFor n ds
-
-  abbrev to-plan : PlanFor 𝓤 H A mem run .Ghost
-  to-plan = (((κ, tt), (q, tt), tt, (d, (n, tt)), (v ∷ [], (vint w64 n ∷ [], tt))), tt)
-
-  goes-plan : ent 𝓤 (sep 𝓤 (A .lft κ q) (sem 𝓤 H A Own)) (sep 𝓤 (PlanFor 𝓤 H A mem run .pre to-plan) (sem 𝓤 H A Own))
-  goes-plan = lend n (room .0) (PlanFor 𝓤 H A mem run .pre to-plan) (qed W ((‵ (flft κ q) ⊛ ‵ ftrue) ∷ ‵ (owns (ShrSlice (named 0) κ u8 ∷ usize ∷ []) (d, (n, tt)) (v ∷ [], (vint w64 n ∷ [], tt))) ∷ []) ∵ join ! $ frame ! $ done !)
+      nothing ! $ move ! (3 ∷ 0 ∷ []) $ join ! $ use2 W (raw (PlanFor 𝓤 H A mem run .pre (to-plan m))) asked $ frame ! $ done !
+    where
+      asked : ent 𝓤 (⋆ 𝓤 H A ((‵ (flft κ q) ⊛ ‵ ftrue) ∷ ‵ (owns (ShrSlice (named 0) κ u8 ∷ usize ∷ []) (d, (m, tt)) (v ∷ [], (vint w64 m ∷ [], tt))) ∷ [])) (PlanFor 𝓤 H A mem run .pre (to-plan m))
+      asked = qed W ((‵ (flft κ q) ⊛ ‵ ftrue) ∷ ‵ (owns (ShrSlice (named 0) κ u8 ∷ usize ∷ []) (d, (m, tt)) (v ∷ [], (vint w64 m ∷ [], tt))) ∷ []) ∵ join ! $ frame ! $ done !
 
   plan-said : (r : Plan) → ent 𝓤 (ensured 𝓤 H A plan.ended (plan.clauses 𝓤 H A mem run) (κ, tt) (d, (n, tt)) tt r) (fact 𝓤 (r ≡ p))
   plan-said r = exE 𝓤 _ (λ ws. snd∗ 𝓤 (sem 𝓤 H A (lasts plan.ended (κ, tt) (d, (n, tt)) ws)) (fact 𝓤 (r ≡ p)))
 
-  abbrev to-step : ℕ → StepAt 𝓤 H A mem run .Ghost
-  to-step p = (((κ, tt), (q, tt), tt, (d, (p, tt)), (v ∷ [], (vint w64 p ∷ [], tt))), tt)
-
-  goes-step : (p : ℕ) → p < 2 ^ 64 → ent 𝓤 (sep 𝓤 (A .lft κ q) (sem 𝓤 H A Own)) (sep 𝓤 (StepAt 𝓤 H A mem run .pre (to-step p)) (sem 𝓤 H A Own))
-  goes-step p fits = lend p fits (StepAt 𝓤 H A mem run .pre (to-step p)) (qed W ((‵ (flft κ q) ⊛ ‵ ftrue) ∷ ‵ (owns (ShrSlice (named 0) κ u8 ∷ usize ∷ []) (d, (p, tt)) (v ∷ [], (vint w64 p ∷ [], tt))) ∷ []) ∵ join ! $ frame ! $ done !)
-
-  step-said : (p : ℕ) (r : Step) → ent 𝓤 (ensured 𝓤 H A step.ended (step.clauses 𝓤 H A mem run) (κ, tt) (d, (p, tt)) tt r) (fact 𝓤 (r ≡ stepAt ds p))
-  step-said p r = exE 𝓤 _ (λ ws. snd∗ 𝓤 (sem 𝓤 H A (lasts step.ended (κ, tt) (d, (p, tt)) ws)) (fact 𝓤 (r ≡ stepAt ds p)))
+  step-said : (m : ℕ) (r : Step) → ent 𝓤 (ensured 𝓤 H A step.ended (step.clauses 𝓤 H A mem run) (κ, tt) (d, (m, tt)) tt r) (fact 𝓤 (r ≡ stepAt ds m))
+  step-said m r = exE 𝓤 _ (λ ws. snd∗ 𝓤 (sem 𝓤 H A (lasts step.ended (κ, tt) (d, (m, tt)) ws)) (fact 𝓤 (r ≡ stepAt ds m)))
 
   -- ---- the exit, with the answer at the machine value u, and the table at zs
   exits : (u : Val) (zs : List Entry) → Is K.the-row (p .answer) (u ∷ []) → zs ≡ tableAfter ds ys → length zs ≡ n
@@ -234,7 +228,7 @@ module _ {M : Type 1} (𝓤 : URA M) (H : Heap 𝓤) (A : Atoms 𝓤) (W : Given
           rewrite ! 10 (λ (t : Bool). ‵ (fat fullShare tyBool l₈ 0 (vbool t))) e refl $
           stays ! (load ! (from ! (stop !)) (look ! 10 refl)) $
           -- `step_at`
-          move ! (1 ∷ 2 ∷ []) $ use2 W (raw (StepAt 𝓤 H A mem run .pre (to-step (spot ds (i .0)))) ⊛ ‵ Own) (goes-step (spot ds (i .0)) (i .1 .1)) $ split ! $
+          move ! (1 ∷ 2 ∷ []) $ use2 W (raw (StepAt 𝓤 H A mem run .pre (to-step (spot ds (i .0)))) ⊛ ‵ Own) (goes (spot ds (i .0)) (i .1 .1)) $ split ! $
           calls-at ! (fmOf 𝓤 H (W .laws) 𝓣) (StepAt 𝓤 H A mem run) known-step (to-step (spot ds (i .0))) (and-then ! (load ! (from ! (stop !)) (look ! 24 refl)) (and-then ! (load ! (from ! (stop !)) (look ! 18 refl)) (no-more !))) (λ w.
           use1 W (later (some (λ (t : Step). ((‵ (flft κ q) ⊛ ‵ ftrue) ⊛ ‵ (S.the-row .own t (w ∷ []))) ⊛ raw (ensured 𝓤 H A step.ended (step.clauses 𝓤 H A mem run) (κ, tt) (d, (spot ds (i .0), tt)) tt t)))) (id⊢ 𝓤 _) $ await ! tt $ pick ! (λ t.
           split ! $ move ! (1 ∷ []) $ use1 W (raw (fact 𝓤 (t ≡ st))) (step-said (spot ds (i .0)) t) $ heard ! (t ≡ st) (λ es. split ! $ move ! (1 ∷ []) $
@@ -320,8 +314,8 @@ module _ {M : Type 1} (𝓤 : URA M) (H : Heap 𝓤) (A : Atoms 𝓤) (W : Given
         opens-slice ! tt T.the-row ys b o $
         -- [the entries; the open borrow; obs; auth; the data's token; what the data owns; _10; …]
         assigns ! (of-opd ! (load ! (from ! (fld ! refl (stop !))) (look-in ! 22 (sub ! 1 refl (whole !))))) (from ! (stop !)) (init ! 12 refl (tt, record { fits = room .0 })) $
-        move ! (4 ∷ 5 ∷ []) $ use2 W (raw (PlanFor 𝓤 H A mem run .pre to-plan) ⊛ ‵ Own) goes-plan $ split ! $
-        calls-at ! (fmOf 𝓤 H (W .laws) 𝓣) (PlanFor 𝓤 H A mem run) known-plan to-plan (and-then ! (load ! (from ! (stop !)) (look ! 24 refl)) (and-then ! (load ! (from ! (stop !)) (look ! 12 refl)) (no-more !))) (λ u.
+        move ! (4 ∷ 5 ∷ []) $ use2 W (raw (PlanFor 𝓤 H A mem run .pre (to-plan n)) ⊛ ‵ Own) (goes n (room .0)) $ split ! $
+        calls-at ! (fmOf 𝓤 H (W .laws) 𝓣) (PlanFor 𝓤 H A mem run) known-plan (to-plan n) (and-then ! (load ! (from ! (stop !)) (look ! 24 refl)) (and-then ! (load ! (from ! (stop !)) (look ! 12 refl)) (no-more !))) (λ u.
         use1 W (later (some (λ (r : Plan). ((‵ (flft κ q) ⊛ ‵ ftrue) ⊛ ‵ (P.the-row .own r (u ∷ []))) ⊛ raw (ensured 𝓤 H A plan.ended (plan.clauses 𝓤 H A mem run) (κ, tt) (d, (n, tt)) tt r)))) (id⊢ 𝓤 _) $ await ! tt $ pick ! (λ r.
         split ! $ move ! (1 ∷ []) $ use1 W (raw (fact 𝓤 (r ≡ p))) (plan-said r) $ heard ! (r ≡ p) (λ er. split ! $ move ! (1 ∷ []) $
         peeks ! P.the-row (Is P.the-row) (shows 𝓤 H A P.the-row) r (u ∷ []) (λ is. land ! (from ! (stop !)) (init ! 21 refl (LL.lawful P.the-type P′.the-laws 𝓤 H A W .typed r _ is .0)) $
