@@ -12,8 +12,8 @@ use Rattle.bat.specs.Meaning.{countOf}
 use Rattle.bat.proofs.WalkLaws.{front-within}
 use Rattle.bat.proofs.DataLaws.{elements-next, Taken, taken-is}
 use Rattle.bat_table.specs.declared.Entry.{Entry}
-use Rattle.bat_table.specs.Table.{entryOf, entriesFrom, filledBy, tableAfter, noEntry, codeOf}
-use Rattle.bat_table.specs.Steps.{storedBy, codeBy, stepAt}
+use Rattle.bat_table.specs.Table.{entryOf, entriesFrom, filledBy, tableAfter, noEntry}
+use Rattle.bat_table.specs.Steps.{storedBy, stepAt}
 
 -- ---- i entries are stored, and the next element is at `spot`
 abbrev pub spot : List ℕ → ℕ → ℕ
@@ -108,9 +108,3 @@ module _ (s : List ℕ) (ys : List Entry) where
       go : (c : Cut) → cut (length ys) s ≡ c → fill s ys (storedBy (countOf c)) ≡ filledBy c ys
       go (refused n) e = refl
       go (taken es) e = filled-taken es (taken-is (length ys) s es e)
-
--- ---- the answer as one number
-pub code-counted : (c : Cut) → codeBy (countOf c) ≡ codeOf c
-unfolding countOf codeOf
-code-counted (refused n) = refl
-code-counted (taken es) = refl

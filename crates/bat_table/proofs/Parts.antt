@@ -7,8 +7,9 @@ use lib.ListN.{length, drop, length-append}
 use lib.Seq.{drop-drop, drop-at, take-at}
 use native.Mathlib.Omega.{arith}
 use Rattle.bat.specs.Framing.{Element, whole, head, taken, cut}
+use Rattle.bat.specs.Meaning.{countOf}
 use Rattle.bat.proofs.DataLaws.{laid, taken-is}
-use Rattle.bat_table.specs.Table.{entryOf, entriesFrom, partOf, codeOf}
+use Rattle.bat_table.specs.Table.{entryOf, entriesFrom, partOf, refusedFrom, codeOf}
 
 parts-from : (s : List ℕ) (d : ℕ) (es : List Element) → flatMap whole es ≡ drop d s → map (partOf s) (entriesFrom d es) ≡ map whole es
 unfolding entriesFrom flatMap
@@ -28,8 +29,8 @@ unfolding flatMap whole head
 length-elements [] = omega arith
 length-elements (e ∷ es) = simp length-append (omega (arith, length-elements es))
 
-pub count-low : (entries : ℕ) (s : List ℕ) (es : List Element) → cut entries s ≡ taken es → codeOf (cut entries s) < 65536
-unfolding codeOf
+pub count-low : (entries : ℕ) (s : List ℕ) (es : List Element) → cut entries s ≡ taken es → codeOf (countOf (cut entries s)) < refusedFrom
+unfolding countOf
 count-low entries s es p =
     let h = taken-is entries s es p in
     rw p (omega (arith, h .short, length-elements es, ap (λ (l : List ℕ). length l) (laid s es (h .are))))

@@ -22,7 +22,8 @@ use Rattle.bat.proofs.Framed.{the-type}
 use Rattle.bat.proofs.CountLaws.{frame-ended, frame-unframed, frame-inside, frame-first, frame-length, frame-some}
 use Rattle.bat_table.specs.declared.Plan.{Plan}
 use Rattle.bat_table.specs.declared.Step.{Step}
-use Rattle.bat_table.specs.Steps.{storedBy, codeBy, planFor, stayAt, stepAt}
+use Rattle.bat_table.specs.Table.{refusedFrom, codeOf}
+use Rattle.bat_table.specs.Steps.{storedBy, planFor, stayAt, stepAt}
 
 -- ---- what is to be done
 pub plan-is : (entries : ℕ) (s : List ℕ) (c : Counted) (n : ℕ) → c ≡ countOf (cut entries s) → n ≡ storedBy c → _≡_ {A = Plan} (record { answer = c; stored = n }) (planFor entries s)
@@ -57,5 +58,5 @@ module _ (s : List ℕ) (at : ℕ) where
       step-whole = rw (← here, frame-first t x is f e w l, frame-length t x is f e w l)
 
 -- ---- an answer as one number
-pub code-refused : (c : Counted) (k n : ℕ) → c ≡ Refused k → n ≡ k → 65536 + n ≡ codeBy c
+pub code-refused : (c : Counted) (k n : ℕ) → c ≡ Refused k → n ≡ k → refusedFrom + n ≡ codeOf c
 code-refused c k n e h = rw (e, h)

@@ -1,5 +1,4 @@
--- For the code alone: what an answer stores, an answer as one number, what is to be done with the data, and the step from one
--- of its elements to the next.
+-- For the code alone: what an answer stores, what is to be done with the data, and the step from one of its elements to the next.
 use Prim.Native.Nat.{ℕ, _+_}
 use mathlib.Core.List.{List}
 use lib.ListN.{length, drop}
@@ -14,10 +13,6 @@ use Rattle.bat_table.specs.Table.{entryOf, noEntry}
 abbrev pub storedBy : Counted → ℕ
 storedBy (Elements n) = n
 storedBy (Refused k) = 0
-
-abbrev pub codeBy : Counted → ℕ
-codeBy (Elements n) = n
-codeBy (Refused k) = 65536 + k
 
 abbrev pub planFor : ℕ → List ℕ → Plan
 planFor entries s = record { answer = countOf (cut entries s); stored = storedBy (countOf (cut entries s)) }

@@ -3,6 +3,8 @@
 use Prim.Native.Nat.{ℕ, _+_}
 use mathlib.Core.List.{List, [], _∷_, _++_}
 use lib.ListN.{length, take, drop}
+use Rattle.bat.specs.declared.Counted.{Counted}
+use Rattle.bat.specs.declared.Counted.the-variants.{Elements, Refused}
 use Rattle.bat.specs.Framing.{Element, whole, Cut, refused, taken, cut}
 use Rattle.bat_table.specs.declared.Entry.{Entry}
 
@@ -32,7 +34,10 @@ partOf s x = take (x .length) (drop (x .start) s)
 abbrev pub noEntry : Entry
 noEntry = record { identifier = 0; start = 0; length = 0 }
 
--- For C: the count of elements, or document 01's number and 65536, which no count reaches.
-unfoldable pub codeOf : Cut → ℕ
-codeOf (refused n) = 65536 + n
-codeOf (taken es) = length es
+-- For C, an answer as one number: the count of elements, or document 01's number above one that no count reaches.
+abbrev pub refusedFrom : ℕ
+refusedFrom = 65536
+
+abbrev pub codeOf : Counted → ℕ
+codeOf (Elements n) = n
+codeOf (Refused n) = refusedFrom + n

@@ -10,6 +10,9 @@ ghost use Rattle.bat.specs.Meaning.{countOf};
 ghost use Rattle.bat_table.specs.Table.{noEntry, tableAfter, codeOf};
 use bat::Counted;
 
+// For C, a refusal's number stands above this.
+pub const REFUSED: usize = 65536;
+
 // Where an element is: its identifier, the place of its identifier octet in the data, and how many
 // octets the whole element has.
 #[repr(C)]
@@ -64,11 +67,11 @@ pub fn entry_at(table: &[Entry], i: usize) -> Entry
     }
 }
 
-// `store_elements` for C. Its answer is one number: the count, or 65536 and the number that refuses
+// `store_elements` for C. Its answer is one number: the count, or REFUSED and the number that refuses
 // the data.
 #[no_mangle]
 pub extern "C" fn bat_table_store(data: &[u8], table: &mut [Entry]) -> usize
-    ensures { λ r. ⌜ (r ≡ codeOf (cut (length (now (table .entry))) (now («data» .entry)))) × (now (table .exit) ≡ tableAfter (now («data» .entry)) (now (table .entry))) ⌝ }
+    ensures { λ r. ⌜ (r ≡ codeOf (countOf (cut (length (now (table .entry))) (now («data» .entry))))) × (now (table .exit) ≡ tableAfter (now («data» .entry)) (now (table .entry))) ⌝ }
 {
     steps::code(store_elements(data, table))
 }

@@ -1,8 +1,10 @@
 // From one element of the data to the next, for every place: what the functions over a table call.
 ghost use mathlib.Core.Path.{_≡_};
-ghost use Rattle.bat_table.specs.Steps.{storedBy, codeBy, planFor, stepAt};
+ghost use Rattle.bat_table.specs.Table.{codeOf};
+ghost use Rattle.bat_table.specs.Steps.{storedBy, planFor, stepAt};
 use crate::Entry;
 use crate::Plan;
+use crate::REFUSED;
 use crate::Step;
 use bat::Counted;
 use bat::Framed;
@@ -19,11 +21,11 @@ fn stored(c: Counted) -> usize
 
 // An answer as one number.
 pub fn code(c: Counted) -> usize
-    ensures { λ r. ⌜ r ≡ codeBy c ⌝ }
+    ensures { λ r. ⌜ r ≡ codeOf c ⌝ }
 {
     match c {
         Counted::Elements(n) => n,
-        Counted::Refused(k) => 65536 + k as usize,
+        Counted::Refused(k) => REFUSED + k as usize,
     }
 }
 
