@@ -79,10 +79,7 @@ module _ {M : Type 1} (𝓤 : URA M) (H : Heap 𝓤) (A : Atoms 𝓤) (W : Given
   abbrev x : List Entry → RefT (List Entry)
   x l = record { ptr = (b, o); name = γ; now = l }
 
-  abbrev Arg : Type 0
-  Arg = RefT (List ℕ) × (RefT (List Entry) × Unit {0})
-
-  abbrev a : Arg
+  abbrev a : RefT (List ℕ) × (RefT (List Entry) × Unit {0})
   a = (d, (x ys, tt))
 
   abbrev v : Val

@@ -14,7 +14,7 @@ use base.Logic.{SProp, ent, emp, via, fst∗}
 use base.Fml.{Lft, Share, GName, ftrue, fat, flft}
 use prog.Memory.{Memory}
 use prog.Routine.{Routine}
-use prog.Wp.{Heap, Calls, Loops, WpFn, Tables}
+use prog.Wp.{Heap, Env, Calls, Loops, WpFn, Tables}
 use ghost.Atoms.{Atoms}
 use contract.Monad.{Fun}
 use contract.Running.{givenOf, tables, tablesOf}
@@ -56,10 +56,7 @@ module _ {M : Type 1} (𝓤 : URA M) (H : Heap 𝓤) (A : Atoms 𝓤) (W : Given
   abbrev x : RefT (List Entry)
   x = record { ptr = (b, o); name = γ; now = ys }
 
-  abbrev Arg : Type 0
-  Arg = RefT (List Entry) × (ℕ × Unit {0})
-
-  abbrev a : Arg
+  abbrev a : RefT (List Entry) × (ℕ × Unit {0})
   a = (x, (i, tt))
 
   abbrev s : Val
@@ -88,6 +85,9 @@ module _ {M : Type 1} (𝓤 : URA M) (H : Heap 𝓤) (A : Atoms 𝓤) (W : Given
   none-is : Is T.the-row noEntry (T′.lowered noEntry ∷ [])
   none-is = LL.owes T.the-type T′.the-laws noEntry ((refl, lit< tt), ((refl, lit< tt), ((refl, lit< tt), tt)))
 
+  abbrev En : ℕ → ℕ → ℕ → ℕ → ℕ → ℕ → ℕ → ℕ → Env 𝓤 H
+  En l₀ l₁ l₂ l₃ l₄ l₅ l₆ l₇ = (T′.mir, l₀) ∷ (sliceTy (tyRef (named 0) imm (pointee (T.the-row .written))), l₁) ∷ (tyInt w64, l₂) ∷ (tyInt w64, l₃) ∷ (tyBool, l₄) ∷ (tyInt w64, l₅) ∷ (tyPtr, l₆) ∷ (T′.mir, l₇) ∷ []
+
   module _ (C : Calls 𝓤 H) (Λ : Loops 𝓤 H) where
     walk : Room T.the-row (length ys) → i < 2 ^ 64 → ent 𝓤 (onEntry 𝓤 H A f.signature (κ, tt) (q, tt) a vals) (WpFn 𝓤 H C Λ code.function (s ∷ vint w64 i ∷ []) Post)
     walk room i-fits =
@@ -112,8 +112,7 @@ module _ {M : Type 1} (𝓤 : URA M) (H : Heap 𝓤) (A : Atoms 𝓤) (W : Given
         returns-within ! Post refl (look ! 20 refl) $ forget ! 6 refl $ forget ! 8 refl $ forget ! 10 refl $ forget ! 12 refl $ forget ! 14 refl $ forget ! 16 refl $ forget ! 18 refl $ forget ! 20 refl $
         move ! (20 ∷ 21 ∷ []) $ free1 ! $ move ! (18 ∷ 19 ∷ []) $ free1 ! $ move ! (16 ∷ 17 ∷ []) $ free1 ! $ move ! (14 ∷ 15 ∷ []) $ free1 ! $ move ! (12 ∷ 13 ∷ []) $ free1 ! $ move ! (10 ∷ 11 ∷ []) $ free1 ! $ move ! (8 ∷ 9 ∷ []) $ free1 ! $ move ! (6 ∷ 7 ∷ []) $ free1 ! $ free0 ! $
         move ! (3 ∷ 1 ∷ []) $ fjoin ! $ move ! (3 ∷ 0 ∷ []) $ fjoin ! $ move ! (3 ∷ []) $ fsplit ! $ keep ! (3 ∷ 2 ∷ 0 ∷ []) $ by ! (exits e refl g))))
-        (λ over. skips ! $ exec ! C Λ ((T′.mir, l₀) ∷ (sliceTy (tyRef (named 0) imm (pointee (T.the-row .written))), l₁) ∷ (tyInt w64, l₂) ∷ (tyInt w64, l₃) ∷ (tyBool, l₄) ∷ (tyInt w64, l₅) ∷ (tyPtr, l₆) ∷ (T′.mir, l₇) ∷ []) mir′.t-4
-        (atRet ((T′.mir, l₀) ∷ (sliceTy (tyRef (named 0) imm (pointee (T.the-row .written))), l₁) ∷ (tyInt w64, l₂) ∷ (tyInt w64, l₃) ∷ (tyBool, l₄) ∷ (tyInt w64, l₅) ∷ (tyPtr, l₆) ∷ (T′.mir, l₇) ∷ []) Post) $
+        (λ over. skips ! $ exec ! C Λ (En l₀ l₁ l₂ l₃ l₄ l₅ l₆ l₇) mir′.t-4 (atRet (En l₀ l₁ l₂ l₃ l₄ l₅ l₆ l₇) Post) $
         assigns ! (agg ! (and-then ! (lit ! tt) (and-then ! (lit ! tt) (and-then ! (lit ! tt) (no-more !))))) (from ! (stop !)) (init ! 14 refl (typed noEntry none-is)) $
         returns ! (look ! 14 refl) $ forget ! 6 refl $ forget ! 8 refl $ forget ! 10 refl $ forget ! 12 refl $ forget ! 14 refl $
         move ! (14 ∷ 15 ∷ []) $ free1 ! $ move ! (12 ∷ 13 ∷ []) $ free1 ! $ move ! (10 ∷ 11 ∷ []) $ free1 ! $ move ! (8 ∷ 9 ∷ []) $ free1 ! $ move ! (6 ∷ 7 ∷ []) $ free1 ! $ move ! (4 ∷ 5 ∷ []) $ free1 ! $ move ! (2 ∷ 3 ∷ []) $ free1 ! $ free1 ! $ free0 ! $
