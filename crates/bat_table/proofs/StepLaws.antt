@@ -12,7 +12,7 @@ use denote.Enum.Declared.{tagOf}
 use types.Run.{OneOf}
 use native.Mathlib.Omega.{arith}
 use Rattle.bat.specs.declared.Counted.{Counted}
-use Rattle.bat.specs.declared.Counted.the-variants.{Refused}
+use Rattle.bat.specs.declared.Counted.the-variants.{Elements, Refused}
 use Rattle.bat.specs.declared.Frame.{Frame}
 use Rattle.bat.specs.declared.Framed.{Framed}
 use Rattle.bat.specs.declared.Framed.the-variants.{Whole, Unframed, Ended}
@@ -26,8 +26,12 @@ use Rattle.bat_table.specs.Table.{refusedFrom, codeOf}
 use Rattle.bat_table.specs.Steps.{storedBy, planFor, stayAt, stepAt}
 
 -- ---- what is to be done
-pub plan-is : (entries : ℕ) (s : List ℕ) (c : Counted) (n : ℕ) → c ≡ countOf (cut entries s) → n ≡ storedBy c → _≡_ {A = Plan} (record { answer = c; stored = n }) (planFor entries s)
-plan-is entries s c n e h = rw (h, e)
+module _ (entries : ℕ) (s : List ℕ) (c : Counted) (e : c ≡ countOf (cut entries s)) where
+  pub plan-taken : (n : ℕ) → c ≡ Elements n → _≡_ {A = Plan} (record { answer = Elements n; stored = n }) (planFor entries s)
+  plan-taken n h = rw (← e, h)
+
+  pub plan-refused : (k : ℕ) → c ≡ Refused k → _≡_ {A = Plan} (record { answer = c; stored = 0 }) (planFor entries s)
+  plan-refused k h = rw (← e, h)
 
 -- ---- a step
 module _ (s : List ℕ) (at : ℕ) where

@@ -1,23 +1,13 @@
 // From one element of the data to the next, for every place: what the functions over a table call.
 ghost use mathlib.Core.Path.{_≡_};
 ghost use Rattle.bat_table.specs.Table.{codeOf};
-ghost use Rattle.bat_table.specs.Steps.{storedBy, planFor, stepAt};
+ghost use Rattle.bat_table.specs.Steps.{planFor, stepAt};
 use crate::Entry;
 use crate::Plan;
 use crate::REFUSED;
 use crate::Step;
 use bat::Counted;
 use bat::Framed;
-
-// How many entries an answer stores.
-fn stored(c: Counted) -> usize
-    ensures { λ r. ⌜ r ≡ storedBy c ⌝ }
-{
-    match c {
-        Counted::Elements(n) => n,
-        Counted::Refused(_) => 0,
-    }
-}
 
 // An answer as one number.
 pub fn code(c: Counted) -> usize
@@ -34,10 +24,15 @@ pub fn plan_for(data: &[u8], entries: usize) -> Plan
     ensures { λ r. ⌜ r ≡ planFor entries (now («data» .entry)) ⌝ }
 {
     let answer = bat::framing::count(data, entries);
-    let n = stored(answer);
-    Plan {
-        answer: answer,
-        stored: n,
+    match answer {
+        Counted::Elements(n) => Plan {
+            answer: answer,
+            stored: n,
+        },
+        Counted::Refused(_) => Plan {
+            answer: answer,
+            stored: 0,
+        },
     }
 }
 
