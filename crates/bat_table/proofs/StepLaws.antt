@@ -23,7 +23,7 @@ use Rattle.bat.proofs.CountLaws.{frame-ended, frame-unframed, frame-inside, fra
 use Rattle.bat_table.specs.declared.Plan.{Plan}
 use Rattle.bat_table.specs.declared.Step.{Step}
 use Rattle.bat_table.specs.Table.{refusedFrom, codeOf}
-use Rattle.bat_table.specs.Steps.{storedBy, planFor, stayAt, stepAt}
+use Rattle.bat_table.specs.Steps.{planFor, stayAt, stepAt}
 
 -- ---- what is to be done
 module _ (entries : ℕ) (s : List ℕ) (c : Counted) (e : c ≡ countOf (cut entries s)) where
