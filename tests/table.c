@@ -118,6 +118,8 @@ static void run(char *in, const char *want, unsigned long *filled)
 
     if (sscanf(in, "%u %zu %n", &pass, &entries, &used) != 2 || used == 0)
         fail("no case");
+    if (entries > 65535)
+        entries = 65535; /* no data has as many elements */
 
     uint8_t *data = read_digits(in + used, &octets);
     struct bat_entry *all = malloc((entries + 2 * GUARDS) * sizeof *all);

@@ -64,19 +64,19 @@ module _ (s : List ℕ) (d : ℕ) (x : Entry) (xs : List Entry) where
 
 -- ---- what is stored, where xs are the entries of the data
 module _ (s : List ℕ) (ys xs : List Entry) (all : entriesAt s 0 ≡ some xs) (room : length xs ≤ length ys) where
-  -- those from the next place are not stored yet
+  -- where those from the place on are not stored yet, the step there finds the next of them
+  turn : (i : ℕ) → i < length xs → entriesAt s (spot s i) ≡ some (drop i xs) → (stepAt s (spot s i) .entry ≡ getD xs i noEntry) × (entriesAt s (spot s (suc i)) ≡ some (drop (suc i) xs))
+  turn i h p = uncons s (spot s i) (getD xs i noEntry) (drop (suc i) xs) (p ∙ ap some (drop-cons xs i noEntry h))
+
   ahead : (i : ℕ) → i ≤ length xs → entriesAt s (spot s i) ≡ some (drop i xs)
   ahead zero h = all
-  ahead (suc i) h = uncons s (spot s i) (getD xs i noEntry) (drop (suc i) xs) (ahead i (omega arith) ∙ ap some (drop-cons xs i noEntry h)) .1
-
-  next-is : (i : ℕ) → i < length xs → stepAt s (spot s i) .entry ≡ getD xs i noEntry
-  next-is i h = uncons s (spot s i) (getD xs i noEntry) (drop (suc i) xs) (ahead i (omega arith) ∙ ap some (drop-cons xs i noEntry h)) .0
+  ahead (suc i) h = turn i h (ahead i (omega arith)) .1
 
   filled-to : (i : ℕ) → i ≤ length xs → fill s ys i ≡ take i xs ++ drop i ys
   filled-to zero h = refl
   filled-to (suc i) h =
       let l : length (take i xs) ≡ i = length-take-le i xs (omega arith) in
-      rw (filled-to i (omega arith), next-is i h, drop-cons ys i noEntry (omega arith), set-at (take i xs) (getD ys i noEntry) (drop (suc i) ys) (getD xs i noEntry) i l)
+      rw (filled-to i (omega arith), turn i h (ahead i (omega arith)) .0, drop-cons ys i noEntry (omega arith), set-at (take i xs) (getD ys i noEntry) (drop (suc i) ys) (getD xs i noEntry) i l)
       (sym (ap (λ (l : List Entry). l ++ drop (suc i) ys) (take-suc xs i noEntry h) ∙ append-assoc (take i xs) (getD xs i noEntry ∷ []) (drop (suc i) ys)))
 
 -- ---- the answer says how many entries are stored, and the table is then document 01's

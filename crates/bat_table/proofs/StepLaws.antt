@@ -16,7 +16,7 @@ use Rattle.bat.specs.declared.Counted.the-variants.{Elements, Refused}
 use Rattle.bat.specs.declared.Frame.{Frame}
 use Rattle.bat.specs.declared.Framed.{Framed}
 use Rattle.bat.specs.declared.Framed.the-variants.{Whole, Unframed, Ended}
-use Rattle.bat.specs.Framing.{whole, front, unframed, ended, onFront, cut}
+use Rattle.bat.specs.Framing.{whole, front, onFront, cut}
 use Rattle.bat.specs.Meaning.{elementIn, frontIn, WholeLength, countOf}
 use Rattle.bat.proofs.Framed.{the-type}
 use Rattle.bat.proofs.CountLaws.{frame-ended, frame-unframed, frame-inside, frame-first, frame-length, frame-some}
@@ -35,23 +35,16 @@ module _ (entries : ℕ) (s : List ℕ) (c : Counted) (e : c ≡ countOf (cut en
 
 -- ---- a step
 module _ (s : List ℕ) (at : ℕ) where
-  step-unframed : front (drop at s) ≡ unframed → stayAt at ≡ stepAt s at
-  unfolding stepAt onFront
-  step-unframed h = rw h
-
-  step-ended : front (drop at s) ≡ ended → stayAt at ≡ stepAt s at
-  unfolding stepAt onFront
-  step-ended h = rw h
-
   module _ (t : List ℕ) (here : t ≡ drop at s) (x : Framed) (is : frontIn t x ≡ some (front t)) where
     -- no element is whole there
     pub step-none : OneOf (1 ∷ 2 ∷ []) (tagOf the-type x) → stayAt at ≡ stepAt s at
+    unfolding stepAt onFront
     step-none h = go x refl h
       where
         go : (y : Framed) → x ≡ y → OneOf (1 ∷ 2 ∷ []) (tagOf the-type y) → stayAt at ≡ stepAt s at
         go (Whole f) e h = ⊎-elim (λ z. absurd (omega (arith, z))) (λ z. absurd (omega (arith, z))) h
-        go Unframed e h = step-unframed (rw here at (frame-unframed t x is e))
-        go Ended e h = step-ended (rw here at (frame-ended t x is e))
+        go Unframed e h = rw (← here, frame-unframed t x is e)
+        go Ended e h = rw (← here, frame-ended t x is e)
 
     module _ (f : Frame) (e : x ≡ Whole f) (w : ℕ) (l : WholeLength f w) where
       pub step-fits : length s < 2 ^ 64 → Fits w64 (at + w)

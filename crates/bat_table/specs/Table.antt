@@ -17,8 +17,8 @@ unfoldable pub entriesFrom : ℕ → List Element → List Entry
 entriesFrom d [] = []
 entriesFrom d (e ∷ es) = entryOf d e ∷ entriesFrom (d + length (whole e)) es
 
--- What becomes of the table ys. Data that is refused leaves it as it was; else its entries stand at the front, and those beyond
--- their count are untouched.
+-- What becomes of the table ys. Data that is refused leaves it as it was (document 01, "Refusal numbers"); else its
+-- entries stand at the front, and those beyond their count are untouched.
 unfoldable pub filledBy : Cut → List Entry → List Entry
 filledBy (refused n) ys = ys
 filledBy (taken es) ys = entriesFrom 0 es ++ drop (length es) ys
