@@ -11,7 +11,7 @@ use native.Mathlib.Numerals.{add-one}
 use native.Mathlib.Omega.{arith}
 use borrow.Author.Tests.{lt-ltb, le-ltb}
 use Rattle.octets.specs.Append.{Appends, numberText}
-use Rattle.octets.proofs.LendLaws.{tail-is}
+use Rattle.octets.proofs.Laws.{tail-is}
 use Rattle.octets.proofs.AppendLaws.{append-nil as appends-nil, append-then}
 use Rattle.address.specs.declared.Address.{Address}
 use Rattle.address.specs.declared.Address.the-variants.{V4, V6}

@@ -9,7 +9,7 @@ use native.Mathlib.Omega.{arith}
 use borrow.Author.Tests.{le-leb, lt-ltb, le-ltb, eq-eqb, ne-eqb}
 use Rattle.octets.specs.declared.Span.{Span}
 use Rattle.octets.specs.Spans.{textOf}
-use Rattle.octets.proofs.LendLaws.{tail-is}
+use Rattle.octets.proofs.Laws.{tail-is}
 use Rattle.octets.proofs.SpanLaws.{text-all}
 use Rattle.bat.specs.declared.Value.the-variants.{Report, Unit, Capability}
 use Rattle.bat.specs.declared.Place.the-variants.{Itself}

@@ -16,7 +16,7 @@ use Rattle.bat.specs.declared.Counted.the-variants.{Elements, Refused}
 use Rattle.bat.specs.declared.Frame.{Frame}
 use Rattle.bat.specs.declared.Framed.{Framed}
 use Rattle.bat.specs.declared.Framed.the-variants.{Whole, Unframed, Ended}
-use Rattle.bat.specs.Framing.{whole, front, onFront, cut}
+use Rattle.bat.specs.Framing.{front, onFront, cut}
 use Rattle.bat.specs.Meaning.{elementIn, frontIn, WholeLength, countOf}
 use Rattle.bat.proofs.Framed.{the-type}
 use Rattle.bat.proofs.CountLaws.{frame-ended, frame-unframed, frame-inside, frame-first, frame-length, frame-some}

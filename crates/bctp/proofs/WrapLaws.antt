@@ -13,7 +13,7 @@ use Rattle.octets.specs.declared.Put.{Put}
 use Rattle.octets.specs.declared.Put.the-variants.{Octets, Refused}
 use Rattle.octets.specs.Puts.{putAnswer, putLeaves, Puts}
 use Rattle.octets.proofs.CaseLaws.{by-lt}
-use Rattle.octets.proofs.LendLaws.{tail-is}
+use Rattle.octets.proofs.Laws.{tail-is}
 use Rattle.octets.proofs.PutsLaws.{puts-none, puts-short, puts-no, puts-some}
 use Rattle.bctp.specs.Packet.{versionIndicator, protocolIndicator, packetText}
 use Rattle.bctp.specs.Meaning.{withoutRoom, Indicated}

@@ -14,8 +14,7 @@ use native.Mathlib.Omega.{arith}
 use borrow.Author.Tests.{leb-true, lt-leb}
 use Rattle.octets.specs.declared.Span.{Span}
 use Rattle.octets.specs.Spans.{textOf, inside}
-use Rattle.octets.specs.Put.{put}
-use Rattle.octets.specs.Append.{appended}
+use Rattle.octets.specs.Append.{put, appended}
 use Rattle.octets.proofs.CaseLaws.{by-le}
 use Rattle.address.specs.declared.Address.{Address}
 use Rattle.media.specs.declared.Stream.{Stream as Places}

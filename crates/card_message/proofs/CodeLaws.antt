@@ -1,10 +1,9 @@
 -- Each answer of the reader has the number of what it stands for; a stream's port is no span.
 -- Assumes nothing.
 use Prim.Native.Nat.{ℕ, _+_}
-use mathlib.Core.Path.{_≡_, refl, sym, ap, _∙_}
+use mathlib.Core.Path.{_≡_}
 use mathlib.Core.List.{List}
-use mathlib.Core.Bool.{Bool, true, false, cond}
-use mathlib.Core.Option.{Option, none, some, Option·map}
+use mathlib.Core.Option.{none, some}
 use native.Mathlib.Omega.{arith}
 use Rattle.octets.proofs.CaseLaws.{by-bool}
 use Rattle.address.specs.declared.Address.{Address}

@@ -38,7 +38,7 @@ use Rattle.endpoint.specs.declared.Answer.{Answer}
 use Rattle.endpoint.specs.declared.Call.{Call}
 use Rattle.endpoint.specs.Call.{eventOf}
 use Rattle.endpoint.specs.Rule.{Verdict, Event, said, commanding, ruled, rule, leastRoom}
-use Rattle.endpoint.specs.Step.{bookBy, bookOf, written, Gave, Silent, Says, Did}
+use Rattle.endpoint.specs.Step.{bookBy, bookOf, Gave, Silent, Says, Did}
 
 -- a Request whose texts lie inside its array is what is written
 pub offered-content : (q : Request) → streamInside (q .text) (q .stream) ≡ true → contentIn (q .text) (asked-for.Request (q .stream)) ≡ some (request (requestBy q))

@@ -14,7 +14,7 @@ use Rattle.octets.specs.declared.Number.the-variants.{Value, Bad}
 use Rattle.octets.specs.Decimal.{readNumber, onNumber}
 use Rattle.octets.specs.Spans.{textOf}
 use Rattle.octets.specs.Words.{begins}
-use Rattle.octets.proofs.LendLaws.{tail-is}
+use Rattle.octets.proofs.Laws.{tail-is}
 use Rattle.texts.specs.Tokens.{token, tokenCount}
 use Rattle.texts.proofs.TokenLaws.{tokens-are, tokens-arent}
 use Rattle.sdp.specs.declared.Line.{Line}

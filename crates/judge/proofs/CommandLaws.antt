@@ -13,8 +13,7 @@ use lib.Seq.{take-at}
 use lib.Dec.{eqb, leb}
 use native.Mathlib.Omega.{arith}
 use borrow.Author.Tests.{le-leb, leb-true, eqb-true}
-use Rattle.octets.specs.Put.{put}
-use Rattle.octets.specs.Append.{nextOf, Appends}
+use Rattle.octets.specs.Append.{put, nextOf, Appends}
 use Rattle.octets.specs.Spans.{textOf}
 use Rattle.octets.proofs.AppendLaws.{append-more, append-room, length-appends}
 use Rattle.octets.proofs.CaseLaws.{by-bool}

@@ -10,7 +10,7 @@ use lib.Dec.{ltb}
 use native.Mathlib.Omega.{arith}
 use borrow.Author.Tests.{eq-eqb, ne-eqb, lt-ltb, le-ltb, le-leb, lt-leb}
 use Rattle.octets.specs.Split.{has, before, onFirst, splitOn}
-use Rattle.octets.specs.Put.{put}
+use Rattle.octets.specs.Append.{put}
 use Rattle.octets.proofs.Laws.{length-put}
 use Rattle.octets.proofs.CaseLaws.{by-eq, by-lt}
 use Rattle.octets.proofs.SplitLaws.{split-some}
@@ -142,10 +142,6 @@ module _ (part l f : List ℕ) (from n : ℕ) (over : Bool) (r : Gathered) (g : 
   pub held-gathered : (t : List ℕ) → held l n over ≡ fit (length l) t → held f (r .len) (r .over) ≡ fit (length l) (t ++ before 10 (drop from part))
   unfolding filled gathered
   held-gathered t e = rw (g .answers, g .leaves) (holds-after l t (before 10 (drop from part)) n over h e)
-
-  pub len-gathered : r .len ≤ length f
-  unfolding gathered
-  len-gathered = let k = length-gathered in rw (g .answers) (omega arith)
 
 fit-snoc : (cap : ℕ) (ts : List (List ℕ)) (t : List ℕ) → fitAll cap (ts ++ (t ∷ [])) ≡ fitAll cap ts ++ (fit cap t ∷ [])
 unfolding fitAll

@@ -6,7 +6,7 @@ use mathlib.Core.Bool.{Bool, _||_, cond}
 use lib.ListN.{length, take, drop}
 use lib.Dec.{ltb}
 use Rattle.octets.specs.Split.{has, before}
-use Rattle.octets.specs.Put.{put}
+use Rattle.octets.specs.Append.{put}
 use Rattle.line_input.specs.declared.Gathered.{Gathered}
 
 -- the answer, where s is what is left of the part, at position i, and the buffer has room for `free` octets behind the n in it

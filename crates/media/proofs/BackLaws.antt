@@ -21,7 +21,7 @@ use Rattle.octets.proofs.RoundTrip.{number-back}
 use Rattle.octets.proofs.SplitLaws.{before-here, before-more, split-here, split-more, split-last, has-not}
 use Rattle.texts.specs.Tokens.{noneEmpty, tokenCount, behindBlank}
 use Rattle.media.specs.Stream.{Stream, bareStream, rtpmapWord, fmtpWord, ptimeWord, mediaText}
-use Rattle.media.specs.Attributes.{mediaOf, fitting, withRtpmap, withFmtp, withPtime, rtpmapOf, fmtpOf, ptimeOf, isAttribute, attributeOf}
+use Rattle.media.specs.Attributes.{mediaOf, fitting, withRtpmap, withFmtp, withPtime, rtpmapOf, fmtpOf, ptimeOf, attributeOf}
 
 -- ---- a number's text
 has-append : (c : ℕ) (xs ys : List ℕ) → has c (xs ++ ys) ≡ (has c xs || has c ys)

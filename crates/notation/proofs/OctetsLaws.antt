@@ -9,8 +9,7 @@ use lib.Dec.{leb, eqb}
 use lib.Seq.{take-nil, take-at}
 use native.Mathlib.Omega.{arith}
 use borrow.Author.Tests.{lt-ltb, le-ltb, le-leb, lt-leb, eq-eqb, leb-true}
-use Rattle.octets.specs.Append.{nextOf, appended, Appends}
-use Rattle.octets.specs.Put.{put}
+use Rattle.octets.specs.Append.{put, nextOf, appended, Appends}
 use Rattle.octets.specs.Hex.{isHexDigit, hexValue, allHex, isHex, octetsOf}
 use Rattle.octets.proofs.CaseLaws.{by-bool, by-le}
 use Rattle.octets.proofs.Laws.{next, put-nil, put-cons}

@@ -8,8 +8,7 @@ use lib.Seq.{take-all, take-nil, take-append-le, take-append-add, take-at}
 use native.Mathlib.Numerals.{add-one, sub-one}
 use native.Mathlib.Omega.{arith}
 use borrow.Author.Tests.{lt-ltb, le-ltb}
-use Rattle.octets.specs.Put.{put}
-use Rattle.octets.specs.Append.{nextOf, appended, Appends, widthFrom, numberText, Width}
+use Rattle.octets.specs.Append.{put, nextOf, appended, Appends, widthFrom, numberText, Width}
 use Rattle.octets.specs.Decimal.{lastDigits}
 use Rattle.octets.proofs.CaseLaws.{by-lt}
 use Rattle.octets.proofs.Laws.{next, put-nil, put-snoc, put-cons, length-put, put-append}

@@ -1,20 +1,18 @@
 -- Laws of hexadecimal text: an octet is read from two digits and written as two digits, so each turn takes or gives two.
 -- Assumes nothing.
-use Prim.Native.Nat.{ℕ, _+_, _*_, _/_, _%_, _≤_, _<_}
-use mathlib.Core.Path.{_≡_, refl, sym, ap, _∙_}
+use Prim.Native.Nat.{ℕ, _+_, _/_, _%_, _≤_, _<_}
+use mathlib.Core.Path.{_≡_, refl, ap}
 use mathlib.Core.List.{List, [], _∷_, _++_}
-use mathlib.Core.Bool.{Bool, true, false, _&&_, cond}
-use lib.ListN.{length, getD, take, drop, set, length-drop, drop-of-length-le}
+use mathlib.Core.Bool.{Bool, true, false, cond}
+use lib.ListN.{length, getD, take}
 use lib.Seq.{take-all, take-suc}
 use lib.Dec.{ltb, leb}
 use native.Mathlib.Numerals.{add-one}
 use native.Mathlib.Omega.{arith}
 use borrow.Author.Tests.{leb-true}
-use Rattle.octets.specs.Put.{put}
 use Rattle.octets.specs.Append.{Appends}
-use Rattle.octets.specs.Hex.{isHexDigit, hexValue, allHex, octetsOf, Valued, hexDigit, hexText}
+use Rattle.octets.specs.Hex.{hexValue, octetsOf, Valued, hexDigit, hexText}
 use Rattle.octets.proofs.CaseLaws.{by-bool}
-use Rattle.octets.proofs.Laws.{next, put-nil, put-cons}
 use Rattle.octets.proofs.AppendLaws.{append-nil, append-then}
 
 cond-low : (t : Bool) (x y : ℕ) → (t ≡ true → x < 16) → (t ≡ false → y < 16) → cond t x y < 16
@@ -33,56 +31,11 @@ value-low b =
 pub valued : (b r : ℕ) → r ≡ hexValue b → Valued b r
 valued b r e = record { is = e; low = rw e (value-low b) }
 
--- all digits, at position i
-module _ (s : List ℕ) (i : ℕ) (x : Bool) (inv : allHex (drop i s) ≡ x) where
-  all-here : i < length s → (isHexDigit (getD s i 0) && allHex (drop (i + 1) s)) ≡ x
-  unfolding allHex
-  all-here h = rw (next s i h) at inv
-
-  pub all-no : (t : Bool) → i < length s → t ≡ isHexDigit (getD s i 0) → t ≡ false → false ≡ x
-  all-no t h e f = let z : isHexDigit (getD s i 0) ≡ false = sym e ∙ f in rw z at all-here h
-
-  pub all-yes : (t : Bool) → i < length s → t ≡ isHexDigit (getD s i 0) → t ≡ true → allHex (drop (i + 1) s) ≡ x
-  all-yes t h e f = let z : isHexDigit (getD s i 0) ≡ true = sym e ∙ f in rw z at all-here h
-
-  pub all-end : length s ≤ i → true ≡ x
-  unfolding allHex
-  all-end h = rw (drop-of-length-le s h) at inv
-
-pub ruleset hexes = (all-no, all-yes, all-end)
-
 pub length-octets : (s : List ℕ) (w : ℕ) → w ≡ length s / 2 → length (octetsOf s) ≡ w
 unfolding octetsOf
 length-octets [] w e = omega arith
 length-octets (a ∷ []) w e = omega arith
 length-octets (a ∷ b ∷ s) w e = let z = length-octets s (length s / 2) refl in omega arith
-
-octets-short : (s : List ℕ) → length s ≤ 1 → octetsOf s ≡ []
-unfolding octetsOf
-octets-short [] h = refl
-octets-short (a ∷ []) h = refl
-octets-short (a ∷ b ∷ s) h = absurd (omega arith)
-
-drop-two : (s : List ℕ) (j : ℕ) → j + j + 1 < length s → drop (j + j) s ≡ getD s (j + j) 0 ∷ getD s (j + j + 1) 0 ∷ drop (j + 1 + (j + 1)) s
-drop-two s j h =
-    let e : j + j + 1 + 1 ≡ j + 1 + (j + 1) = omega arith in
-    next s (j + j) (omega arith) ∙ ap (λ (z : List ℕ). getD s (j + j) 0 ∷ z) (next s (j + j + 1) h ∙ rw e)
-
--- A turn: the octets of what is left of src are to be put at at + j; f is the buffer at the end.
-module _ (src l f : List ℕ) (at j : ℕ) (inv : put l (at + j) (octetsOf (drop (j + j) src)) ≡ f) where
-  pub unhex-turn : (a b : ℕ) → j < length src / 2 → at + length src / 2 ≤ length l → Valued (getD src (j + j) 0) a → Valued (getD src (j + j + 1) 0) b
-      → put (set l (at + j) (a * 16 + b)) (at + (j + 1)) (octetsOf (drop (j + 1 + (j + 1)) src)) ≡ f
-  unfolding octetsOf
-  unhex-turn a b h k p q =
-      let e : at + (j + 1) ≡ at + j + 1 = omega arith in
-      let r = octetsOf (drop (j + 1 + (j + 1)) src) in
-      let z : put l (at + j) ((hexValue (getD src (j + j) 0) * 16 + hexValue (getD src (j + j + 1) 0)) ∷ r) ≡ f = rw (drop-two src j (omega arith)) at inv in
-      rw (e, p .is, q .is) (sym (put-cons l (at + j) (hexValue (getD src (j + j) 0) * 16 + hexValue (getD src (j + j + 1) 0)) r (omega arith)) ∙ z)
-
-  pub unhex-done : length src / 2 ≤ j → l ≡ f
-  unhex-done h = sym (put-nil l (at + j)) ∙ ap (put l (at + j)) (sym (octets-short (drop (j + j) src) (omega (arith, length-drop (j + j) src)))) ∙ inv
-
-pub ruleset unhexing = (unhex-turn, unhex-done)
 
 hex-append : (xs ys : List ℕ) → hexText (xs ++ ys) ≡ hexText xs ++ hexText ys
 unfolding hexText

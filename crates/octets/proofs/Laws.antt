@@ -1,16 +1,15 @@
--- Laws of `put`, `answer` and `placed`, and of the list that is left at a position: they follow from what `take`, `drop` and `set` do to a list.
+-- Laws of `put`, and of the list that is left at a position: they follow from what `take`, `drop` and `set` do to a list.
 -- Assumes nothing.
 use Prim.Native.Nat.{ℕ, zero, suc, _+_, _-_, _≤_, _<_}
 use mathlib.Core.Path.{_≡_, refl, sym, ap, _∙_}
 use mathlib.Core.List.{List, [], _∷_, _++_, append-nil, append-assoc}
 use lib.ListN.{length, getD, take, drop, set, length-append, length-take, length-drop, take-append-drop}
-use lib.Seq.{drop-cons, take-set-le, drop-set-lt, take-suc-set, drop-drop, length-take-le, take-nil, take-at, drop-at}
+use lib.Seq.{drop-cons, take-set-le, drop-set-lt, take-suc-set, drop-drop, length-take-le, take-nil, take-all, take-at, drop-at}
 use native.Mathlib.Nat.{add-zero, add-suc, suc-add, not-suc-le-zero, le-of-suc-le-suc, add-assoc, sub-zero}
 use native.Mathlib.Numerals.{add-one}
 use native.Mathlib.Omega.{arith}
-use borrow.Author.Tests.{le-leb, lt-leb}
-use Rattle.octets.specs.declared.Written.the-variants.{Next, NoRoom}
-use Rattle.octets.specs.Put.{put, room, placed, answer, Wrote}
+use borrow.Rule.Slice.PartMut.{midOf}
+use Rattle.octets.specs.Append.{put}
 
 -- what is left at i is the octet there and what is left after it
 pub next : (s : List ℕ) (i : ℕ) → i < length s → drop i s ≡ getD s i 0 ∷ drop (i + 1) s
@@ -22,6 +21,10 @@ drop-take zero n l = simp sub-zero
 drop-take (suc a) zero l = let z : 0 - suc a ≡ 0 = omega arith in rw z
 drop-take (suc a) (suc n) [] = sym (take-nil (suc n - suc a))
 drop-take (suc a) (suc n) (x ∷ l) = let z : suc n - suc a ≡ n - a = omega arith in rw z (drop-take a n l)
+
+-- the part from a on, to the end
+pub tail-is : (l : List ℕ) (a : ℕ) → midOf a (length l - a) l ≡ drop a l
+tail-is l a = take-all (length l - a) (drop a l) (omega (arith, length-drop a l))
 
 -- nothing written
 pub put-nil : (l : List ℕ) (at : ℕ) → put l at [] ≡ l
@@ -60,30 +63,3 @@ put-append l xs ys at h =
     let a = take at l ++ xs in
     let la : length a ≡ n = length-append (take at l) xs ∙ ap (λ (z : ℕ). z + length xs) (length-take-le at l (omega arith)) in
     append-behind a (drop n l) ys n la ∙ simp (append-assoc, length-append, drop-drop, add-assoc)
-
-pub answer-yes : (l : List ℕ) (at : ℕ) (vs : List ℕ) → at + length vs ≤ length l → Next (at + length vs) ≡ answer l at vs
-unfolding answer room
-answer-yes l at vs h = simp (le-leb (at + length vs) (length l) h)
-
-pub answer-no : (l : List ℕ) (at : ℕ) (vs : List ℕ) → length l < at + length vs → NoRoom ≡ answer l at vs
-unfolding answer room
-answer-no l at vs h = simp (lt-leb (at + length vs) (length l) h)
-
-pub placed-yes : (l : List ℕ) (at : ℕ) (vs : List ℕ) → at + length vs ≤ length l → put l at vs ≡ placed l at vs
-unfolding placed room
-placed-yes l at vs h = simp (le-leb (at + length vs) (length l) h)
-
-pub placed-no : (l : List ℕ) (at : ℕ) (vs : List ℕ) → length l < at + length vs → l ≡ placed l at vs
-unfolding placed room
-placed-no l at vs h = simp (lt-leb (at + length vs) (length l) h)
-
--- A writer of w octets that tests `length l < w`, then `length l - w < at`, and then puts them.
-module _ (l : List ℕ) (at : ℕ) (vs : List ℕ) (w : ℕ) (e : length vs ≡ w) where
-  pub no-room : length l < w → Wrote l at vs NoRoom l
-  no-room h = record { answers = answer-no l at vs (omega arith); leaves = placed-no l at vs (omega arith) }
-
-  pub no-room-at : w ≤ length l → length l - w < at → Wrote l at vs NoRoom l
-  no-room-at h k = record { answers = answer-no l at vs (omega arith); leaves = placed-no l at vs (omega arith) }
-
-  pub did-put : (f : List ℕ) → w ≤ length l → at ≤ length l - w → f ≡ put l at vs → Wrote l at vs (Next (at + w)) f
-  did-put f h k p = record { answers = rw (← e) (answer-yes l at vs (omega arith)); leaves = p ∙ placed-yes l at vs (omega arith) }

@@ -3,7 +3,6 @@
 pub mod CaseLaws
 pub mod Laws
 pub mod SplitLaws
-pub mod LendLaws
 pub mod Pick
 pub mod PartLaws
 pub mod AppendLaws

@@ -10,9 +10,8 @@ use native.Mathlib.Nat.{zero-add}
 use native.Mathlib.Omega.{arith}
 use borrow.Author.Tests.{lt-ltb, le-ltb}
 use Rattle.octets.specs.declared.Put.the-variants.{Octets, Refused}
-use Rattle.octets.specs.Put.{put}
 use Rattle.octets.specs.Puts.{putAnswer, putLeaves, Puts}
-use Rattle.octets.specs.Append.{nextOf, appended, Appends}
+use Rattle.octets.specs.Append.{put, nextOf, appended, Appends}
 use Rattle.octets.proofs.AppendLaws.{append-room, length-appends}
 use Rattle.octets.proofs.CaseLaws.{by-lt}
 

@@ -4,13 +4,13 @@ use Prim.Native.Nat.{ℕ, _+_, _-_, _≤_, _<_}
 use mathlib.Core.Path.{_≡_, sym, _∙_}
 use mathlib.Core.List.{List, []}
 use mathlib.Core.Bool.{true, false}
-use lib.ListN.{length, take, drop, length-take, length-drop, drop-of-length-le}
+use lib.ListN.{length, take, drop, length-drop, drop-of-length-le}
 use lib.Seq.{take-all, take-nil}
 use native.Mathlib.Omega.{arith}
 use borrow.Author.Tests.{le-leb, lt-leb}
 use Rattle.octets.specs.declared.Span.{Span}
 use Rattle.octets.specs.Spans.{textOf, inside}
-use Rattle.octets.proofs.LendLaws.{tail-is}
+use Rattle.octets.proofs.Laws.{tail-is}
 
 module _ (m : List ℕ) (sp : Span) where
   text-none : length m < sp .at → textOf m sp ≡ []
@@ -34,10 +34,6 @@ pub ruleset texts = (text-past, text-cut, text-whole)
 pub text-all : (s : List ℕ) (n : ℕ) → n ≡ length s → textOf s (record { at = 0; len = n }) ≡ s
 unfolding textOf
 text-all s n e = take-all n s (omega arith)
-
-pub length-text : (m : List ℕ) (sp : Span) → length (textOf m sp) ≤ length m
-unfolding textOf
-length-text m sp = simp (length-take, length-drop) (omega arith)
 
 -- ---- fronts and ends
 module _ (s : List ℕ) (n : ℕ) where

@@ -1,12 +1,15 @@
 -- Appending to a buffer: what fits is written, what finds no room is left out. And a number as decimal text.
 use Prim.Native.Nat.{ℕ, zero, suc, _+_, _-_, _/_, _≤_, min}
 use mathlib.Core.Path.{_≡_}
-use mathlib.Core.List.{List}
+use mathlib.Core.List.{List, _++_}
 use mathlib.Core.Bool.{cond}
-use lib.ListN.{length, take}
+use lib.ListN.{length, take, drop}
 use lib.Dec.{ltb}
-use Rattle.octets.specs.Put.{put}
 use Rattle.octets.specs.Decimal.{lastDigits}
+
+-- l with vs in the place of its octets from `at` on
+unfoldable pub put : List ℕ → ℕ → List ℕ → List ℕ
+put l at vs = take at l ++ vs ++ drop (at + length vs) l
 
 -- where the next octet goes, after vs at `at` in a buffer of n octets
 unfoldable pub nextOf : ℕ → ℕ → List ℕ → ℕ

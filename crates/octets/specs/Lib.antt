@@ -1,6 +1,5 @@
 -- What the contracts of this crate speak of, a file for each subject.
 pub mod Split
-pub mod Put
 pub mod Puts
 pub mod Append
 pub mod Decimal

@@ -4,9 +4,8 @@ ghost use mathlib.Core.List.{[], _∷_, _++_};
 ghost use mathlib.Core.Option.{some};
 ghost use Prim.Native.Nat.{_+_, _≤_};
 ghost use lib.ListN.{length};
-ghost use Rattle.octets.specs.Put.{put};
 ghost use Rattle.octets.specs.Decimal.{lastDigits};
-ghost use Rattle.octets.specs.Append.{Appends, Width, numberText};
+ghost use Rattle.octets.specs.Append.{put, Appends, Width, numberText};
 ghost use Rattle.octets.specs.Puts.{Puts};
 use crate::Put;
 

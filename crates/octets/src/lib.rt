@@ -6,12 +6,6 @@ pub mod parts;
 pub mod spans;
 pub mod words;
 
-// A writer's answer: the position after what was written, or that there was no room.
-pub enum Written {
-    Next(usize),
-    NoRoom,
-}
-
 // What a writer at the front of a buffer answers: how many octets it wrote, or document 01's number.
 pub enum Put {
     Octets(usize),

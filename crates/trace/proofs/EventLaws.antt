@@ -80,14 +80,6 @@ unfolding lineText eventText headText kindOf
 line-same d n call m s r o force = rw (kind-same call m)
 
 -- ---- small functions
-pub lent-all : (n asked : ℕ) → n < asked → n ≡ min asked n
-lent-all n asked h = omega arith
-
-pub lent-some : (n asked : ℕ) → asked ≤ n → asked ≡ min asked n
-lent-some n asked h = omega arith
-
-pub ruleset lents = (lent-all, lent-some)
-
 pub written-none : (r : Reply) (n : ℕ) → r ≡ Refused n → 0 ≡ writtenBy r
 unfolding writtenBy
 written-none r n e = rw e

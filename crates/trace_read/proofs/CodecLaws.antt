@@ -13,9 +13,8 @@ use native.Mathlib.Omega.{arith}
 use borrow.Author.Tests.{lt-ltb, le-ltb, le-leb, lt-leb, eq-eqb, ne-eqb}
 use Rattle.octets.specs.declared.Number.{Number}
 use Rattle.octets.specs.declared.Number.the-variants.{Value, Bad}
-use Rattle.octets.specs.Append.{Appends}
+use Rattle.octets.specs.Append.{put, Appends}
 use Rattle.octets.specs.Decimal.{allDigits, shortest, readNumber, onNumber}
-use Rattle.octets.specs.Put.{put}
 use Rattle.octets.specs.Split.{splitOn, partOf, separatorsOf}
 use Rattle.octets.specs.Words.{digitRun}
 use Rattle.octets.proofs.AppendLaws.{append-room}

@@ -5,7 +5,7 @@ use mathlib.Core.Path.{_≡_}
 use lib.ListN.{length, length-set}
 use native.Mathlib.Omega.{arith}
 use borrow.Author.Needs.{needs}
-use Rattle.octets.specs.Put.{put}
+use Rattle.octets.specs.Append.{put}
 use Rattle.octets.specs.Decimal.{lastDigits}
 use Rattle.octets.proofs.AppendLaws.{putting}
 use Rattle.octets.proofs.append.put_digits.Statement.{statement}

@@ -1,0 +1,3 @@
+-- The law of the definition in `specs/`.
+-- Assumes nothing.
+pub mod AgainLaws

@@ -1,0 +1,61 @@
+// A message that is read and written again in a tunnel packet, for C to call: a test has other programs
+// read the packets.
+ghost use mathlib.Core.Path.{_≡_};
+ghost use Rattle.ipbcp.specs.Reading.{readMessage};
+ghost use Rattle.card_packet.specs.Again.{bodyOf, codeOf, Rewrites};
+use ipbcp::Body;
+use ipbcp::Kind;
+use ipbcp::Message;
+use media::Stream;
+use octets::Put;
+
+// For C, a refusal's number stands above this.
+pub const REFUSED: usize = 65536;
+
+// What is written of a message of this type.
+fn body_of(kind: Kind, stream: Stream) -> Body
+    ensures { λ r. ⌜ r ≡ bodyOf kind stream ⌝ }
+{
+    match kind {
+        Kind::Request => Body::Request(stream),
+        Kind::Accepted => Body::Accepted(stream),
+        Kind::Confused => Body::Confused,
+        Kind::Rejected => Body::Rejected,
+    }
+}
+
+// A writer's answer as one number.
+fn code(r: Put) -> usize
+    ensures { λ x. ⌜ x ≡ codeOf r ⌝ }
+{
+    match r {
+        Put::Octets(n) => n,
+        Put::Refused(n) => REFUSED + n as usize,
+    }
+}
+
+// Puts a packet at the front of out whose message says what m says, with m's address as the own one. The
+// answer is how many octets it has, none where m is a version and type alone, or REFUSED and the number
+// that refuses m or the packet; then out stays as it was.
+#[no_mangle]
+pub extern "C" fn card_packet_rewrite(m: &[u8], out: &mut [u8]) -> usize
+    ensures { λ r. ⌜ Rewrites (readMessage (now (m .entry))) (now (out .entry)) r (now (out .exit)) ⌝ }
+{
+    let x = ipbcp::read(m);
+    match x {
+        Message::Refused(n) => REFUSED + n as usize,
+        Message::Typed {
+            version: _,
+            kind: _,
+        } => 0,
+        Message::Described {
+            kind,
+            address,
+            stream,
+        } => {
+            let body = body_of(kind, stream);
+            let r = bctp::write_packet(body, address, m, out);
+            code(r)
+        }
+    }
+}
