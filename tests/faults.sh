@@ -1,8 +1,8 @@
 #!/usr/bin/env bash
-# faults.sh [INSPECT [BEARERTRACE [TRACEDETAIL]]]: faults of input and output. Gives each program input that is closed, can't
-# be read, is empty, is cut at every octet, comes an octet at a time, is interrupted or is not there yet; and output that
-# is full, closed, limited, has no reader or a slow one. Each time the program ends by itself, nothing goes to standard
-# error, and what it prints is right, or the front of what is right where the output is not taken
+# faults.sh [INSPECT [BEARERTRACE [TRACEDETAIL]]]: faults of input and output. Gives each program input that is closed,
+# can't be read, is empty, is cut at every octet, comes an octet at a time, is interrupted or is not there yet; and
+# output that is full, closed, limited, has no reader or a slow one. Each time the program ends by itself, nothing goes
+# to standard error, and what it prints is right, or the front of what is right where the output is not taken
 # (docs/DECISIONS.md, "Failures of input and output"). The programs are the built ones in target/bin unless given. Ends
 # with status 1 where something is wrong. No part of the gate; needs Linux and Python.
 set -u
@@ -64,8 +64,8 @@ end_of() {
     wait "$1"
 }
 
-# What each program is given, and what is right: a sample, and an input whose answers are too many for a pipe to hold. No
-# answer of inspect or bearertrace is a program's of this repository; those of tracedetail are its own, with
+# What each program is given, and what is right: a sample, and an input whose answers are too many for a pipe to hold.
+# No answer of inspect or bearertrace is a program's of this repository; those of tracedetail are its own, with
 # bearertrace's as first columns.
 prepare_inspect() {
     local mode
@@ -136,8 +136,8 @@ octet_by_octet() {
     ended 'an octet at a time' "${PIPESTATUS[1]}" 0
     printed 'an octet at a time' "$work/$name.right"
 }
-# want_front LINES PART ANSWER: what is right for so many whole lines and a part of the next. In inspect that part is answered
-# as a line; in a trace it is bad, or spoils the configuration, which has three lines.
+# want_front LINES PART ANSWER: what is right for so many whole lines and a part of the next. In inspect that part is
+# answered as a line; in a trace it is bad, or spoils the configuration, which has three lines.
 want_front() {
     local last events=$(($1 - 3))
     if [ "$name" = inspect ]; then
@@ -187,7 +187,10 @@ line_by_line() {
         printf '%s\n' "$line" >&"${DIALOGUE[1]}"
         count=$((count + 1))
         if [ $count -le $first ]; then continue; fi
-        if [ $count = 4 ] && [ $first = 3 ]; then IFS= read -r -t 5 got <&"${DIALOGUE[0]}" && echo "$got" >> "$work/out"; fi
+        # The field names come before the first event's answer.
+        if [ $count = $((first + 1)) ] && [ $first = 3 ]; then
+            IFS= read -r -t 5 got <&"${DIALOGUE[0]}" && printf '%s\n' "$got" >> "$work/out"
+        fi
         IFS= read -r -t 5 got <&"${DIALOGUE[0]}" || break
         printf '%s\n' "$got" >> "$work/out"
     done < "$work/$name.in"
@@ -295,8 +298,8 @@ else:
 sys.exit(done.returncode)
 END
 }
-# A read that fails is the end of the input, so what has come is answered, the last line as one that is cut; output that is
-# not taken ends the program.
+# A read that fails is the end of the input, so what has come is answered, the last line as one that is cut; output that
+# is not taken ends the program.
 not_waiting() {
     unblocked in
     ended 'input that is not there yet' $? 0
@@ -314,8 +317,8 @@ prepare_traces
 prepare_detail
 for name in inspect bearertrace tracedetail; do
     program=${programs[$name]}
-    for fault in whole_input no_input octet_by_octet line_by_line stopped no_output limited slow_reader stopped_writing \
-        not_waiting cut_everywhere; do
+    for fault in whole_input no_input octet_by_octet line_by_line stopped no_output limited slow_reader \
+        stopped_writing not_waiting cut_everywhere; do
         $fault
     done
     echo "$name: $checks checks so far"

@@ -24,10 +24,10 @@ LIMIT = 60
 ENOUGH = 500000
 INSPECT_BATCH = 2000
 
-EDGES = (b"0", b"1", b"2", b"3", b"4", b"6", b"00", b"01", b"7", b"8", b"9", b"16", b"95", b"96", b"127", b"128", b"254",
-         b"255", b"256", b"511", b"512", b"513", b"2047", b"2048", b"2049", b"65535", b"65536", b"65537", b"131072",
-         b"4294967295", b"4294967296", b"18446744073709551615", b"18446744073709551616", b"9" * 40, b"1" + b"0" * 400,
-         b"-1", b"+1", b"", b"-", b"1e3", b"0x10", b" 1", b"1 ")
+EDGES = (b"0", b"1", b"2", b"3", b"4", b"6", b"00", b"01", b"7", b"8", b"9", b"16", b"95", b"96", b"127", b"128",
+         b"254", b"255", b"256", b"511", b"512", b"513", b"2047", b"2048", b"2049", b"65535", b"65536", b"65537",
+         b"131072", b"4294967295", b"4294967296", b"18446744073709551615", b"18446744073709551616", b"9" * 40,
+         b"1" + b"0" * 400, b"-1", b"+1", b"", b"-", b"1e3", b"0x10", b" 1", b"1 ")
 ODD_OCTETS = b"\x00\x01\x09\x0a\x0b\x0d\x20\x2d\x2f\x30\x39\x3a\x40\x41\x46\x47\x5a\x61\x66\x67\x7f\x80\x81\xa0\xfe\xff"
 
 
@@ -254,7 +254,7 @@ def some_said(rng):
     family = rng.choice((4, 6))
     payload = rng.choice((0, 8, 18, 95, 96, 97, 127, 127, rng.randrange(128), rng.randrange(130)))
     rtpmap = rng.choice((None, None, b"AMR/8000", b"telephone-event/8000", b" x", b"n" * rng.randrange(232, 244)))
-    fmtp = [b"%d mode-set=%d" % (payload, i) if rng.random() < 0.7 else b"" for i in range(rng.choice((0, 0, 0, 1, 2, 3)))]
+    fmtp = [rng.choice((b"", b"%d mode-set=%d" % (payload, i))) for i in range(rng.choice((0, 0, 0, 1, 2, 3)))]
     port = rng.choice((1, 4000, 6000, 65535, rng.randrange(1, 65536), rng.randrange(1, 65536)))
     said = Said(rng.choice((b"Request",) * 5 + (b"Accepted",) * 5 + (b"Confused", b"Rejected")),
                 rng.choice((b"1",) * 12 + (b"0", b"2", b"255")), family, address(rng, family), b"%d" % port,
@@ -280,10 +280,10 @@ def message_lines(said):
     return lines
 
 
-SKIPPED = (b"i=", b"u=x", b"e=a b", b"p=+1", b"b=AS:64", b"z=0 0", b"k=clear:x", b"r=1 2 3", b"a=", b"a=ptime", b"a=sendrecv",
-           b"a=rtpmap", b"a=x:" + b"y" * 60)
-WRONG = (b"x=1", b"a=ipbcp:1 Request", b"a=rtpmap:8 PCMA/8000", b"a=fmtp:", b"a=ptime:20", b"m=audio 1 RTP/AVP 8", b"v=0",
-         b"V=0", b"=", b"", b"a", b"a=\0", b"s=\r", b"t=0 0 ", b"t=00 1", b"c=IN IP4 1.2.3.4")
+SKIPPED = (b"i=", b"u=x", b"e=a b", b"p=+1", b"b=AS:64", b"z=0 0", b"k=clear:x", b"r=1 2 3", b"a=", b"a=ptime",
+           b"a=sendrecv", b"a=rtpmap", b"a=x:" + b"y" * 60)
+WRONG = (b"x=1", b"a=ipbcp:1 Request", b"a=rtpmap:8 PCMA/8000", b"a=fmtp:", b"a=ptime:20", b"m=audio 1 RTP/AVP 8",
+         b"v=0", b"V=0", b"=", b"", b"a", b"a=\0", b"s=\r", b"t=0 0 ", b"t=00 1", b"c=IN IP4 1.2.3.4")
 
 
 def reline(rng, lines):
@@ -340,7 +340,7 @@ def front(rng, mode):
     if mode == b"elements":
         return b"elements %d %s " % (rng.randrange(2), rng.choice((b"16", b"16", b"1", b"0", b"700", b"65536")))
     if mode == b"rewrite":
-        return b"rewrite %s %s " % (rng.choice((b"2048", b"16", b"4", b"0", b"99999")), rng.choice((b"5", b"255", b"0", b"256")))
+        return b"rewrite %d %d " % (rng.choice((2048, 16, 4, 0, 99999)), rng.choice((5, 255, 0, 256)))
     if mode == b"tunnel":
         return b"tunnel %d " % rng.choice((0, 1, 2, 3, 512))
     if mode == b"address":
@@ -816,7 +816,8 @@ class Maker:
             return line
         length = self.rng.choice((b"512", b"2048", b"65535", b"65536") + EDGES)
         if self.rng.random() < 0.01:
-            length = b"1" * self.rng.choice((2890, 4087, 4088, 4092, 4093, 4094, 4095, 4096))
+            # With it a line has at most 4,096 octets.
+            length = b"1" * max(1, self.rng.choice((4095, 4096, 4096, 4097)) - 3 - len(line))
         return b"B\t" + length + b"\t" + line
 
 
@@ -889,7 +890,8 @@ ANSWERS = (
     ("T1", STATES[:1], "setup-failed", "no", "0"), ("T1", ("idle", "up", "await-change"), "discarded", "no", "0"),
     ("T2", STATES[2:3], "change-failed", "no", "0"), ("T2", STATES[:3], "discarded", "no", "0"),
     ("M", STATES[:1], "setup-failed", "no", "0"), ("M", STATES[2:3], "change-failed", "no", "0"),
-    ("M", STATES[2:3], "up", "no", "*"), ("M", STATES[2:3], "changed", "no", "*"), ("M", STATES[2:3], "changed", "yes", "+"),
+    ("M", STATES[2:3], "up", "no", "*"),
+    ("M", STATES[2:3], "changed", "no", "*"), ("M", STATES[2:3], "changed", "yes", "+"),
     ("M", ("idle", "up"), "rejected", "no", "+"), ("M", STATES[2:3], "rejected", "yes", "+"),
     ("M", ("idle", "up", "await-change"), "confused", "no", "+"), ("M", STATES, "discarded", "no", "0"))
 SHORT = tuple((kind, STATES, "refused-4", "no", "0") for kind in ("U", "C", "X", "T1", "T2", "M"))
@@ -906,6 +908,10 @@ def trace_form(answers, rest):
 BEARER = "(?:%s|%s);%s;audio;RTP/AVP;%s;(?:-|%s+);%s;%s" % (V4, V6, W, N, X, FMTP, N)
 PLAIN_FORM = trace_form(ANSWERS, "")
 DETAIL_FORM = trace_form(ANSWERS + SHORT, " (?:-|%s+) (?:-|%s)" % (X, BEARER))
+
+
+# Lines that inspect answers by `bad-line`.
+BAD_LINES = (b"", b"no", b"\0", b"message 0", b"x" * 16384, b"y" * 70000)
 
 
 # ---- runs
@@ -973,14 +979,14 @@ def run_in_pieces(rng, argv, data):
     return judged(status, out, err)
 
 
-def same(got, want, what):
-    """got and want are lists of lines."""
+def same(got, want, what, first=0):
+    """got and want are lists of lines; the first is the answer to the input's line `first`."""
     if got == want:
         return
     for i, (g, w) in enumerate(zip(got, want)):
         if g != w:
-            raise Fault("%s: answer %d\n  want %s\n  got  %s" % (what, i + 1, w[:3000], g[:3000]), i)
-    raise Fault("%s: %d answers for %d lines" % (what, len(got), len(want)), min(len(got), len(want)))
+            raise Fault("%s: line %d of output\n  want %s\n  got  %s" % (what, i + 1, w[:3000], g[:3000]), first + i)
+    raise Fault("%s: %d lines of output, not %d" % (what, len(got), len(want)), first + min(len(got), len(want)))
 
 
 def lines_of(out):
@@ -991,6 +997,8 @@ def check_inspect(argv, data, tally=None):
     """One right answer for each line."""
     got = lines_of(run(argv, data))
     lines = [line for line, _ in cut(data)]
+    if len(got) != len(lines):
+        raise Fault("%d answers for %d lines" % (len(got), len(lines)))
     for i, (line, answer) in enumerate(zip(lines, got)):
         mode = line.split(b" ")[0]
         form = INSPECT_FORMS.get(mode)
@@ -1002,6 +1010,14 @@ def check_inspect(argv, data, tally=None):
     return got
 
 
+def configuring(lines):
+    """How many lines configure: the first, and those of `K` behind it."""
+    front = 1
+    while front < len(lines) and lines[front].split(b"\t")[0] == b"K":
+        front += 1
+    return front
+
+
 def check_form(got, data, detailed):
     """The lines of a trace program have the right form, numbers and counts."""
     if got == ["refused-12"]:
@@ -1010,9 +1026,7 @@ def check_form(got, data, detailed):
     if got[:1] != ["n event state notice dropped written"]:
         raise Fault("no line of field names", 0)
     lines = [line for line, _ in cut(data)]
-    front = 1
-    while front < len(lines) and lines[front].split(b"\t")[0] == b"K":
-        front += 1
+    front = configuring(lines)
     if len(got) != 1 + len(lines) - front:
         raise Fault("%d answers for %d lines behind the configuration" % (len(got) - 1, len(lines) - front))
     for i, line in enumerate(got[1:]):
@@ -1033,7 +1047,7 @@ def first_columns(lines):
 def check_trace(argv, data, detailed, want):
     got = lines_of(run(argv, data))
     check_form(got, data, detailed)
-    same(got, want, "differs from the rules")
+    same(got, want, "differs from the rules", configuring([line for line, _ in cut(data)]) - 1)
     return got
 
 
@@ -1150,7 +1164,7 @@ class Fuzz:
             self.counts["inspect lines given in pieces"] += part.count(b"\n")
         if n % 5 == 0:
             lines = [line for line, _ in cut(data)]
-            more, there = with_bad(rng, [], lines, lambda rng: rng.choice((b"", b"x" * 16384, b"y" * 70000, b"\0", b"no")))
+            more, there = with_bad(rng, [], lines, lambda rng: rng.choice(BAD_LINES))
             left = [line for line, was in zip(lines_of(run(argv, more)), there) if was]
             same(left, got, "a bad line alters a later answer")
             self.counts["inspect lines among bad ones"] += len(lines)
@@ -1228,13 +1242,13 @@ class Fuzz:
             except Fault as fault:
                 argv, detailed = self.at
                 name = "tracedetail" if detailed else "bearertrace"
-                self.keep(name, fault, self.narrowed_trace(argv, detailed, data))
+                self.keep(name, fault, self.narrowed_trace(argv, detailed, data, fault))
                 return False
             count -= 2 * len(cut(data))
             n += 1
         return True
 
-    def narrowed_trace(self, argv, detailed, data):
+    def narrowed_trace(self, argv, detailed, data, fault):
         def fails(part):
             try:
                 check_trace(argv, part, detailed, expected(part, detailed))
@@ -1242,18 +1256,17 @@ class Fuzz:
                 return True
             return False
 
-        parts = cut(data)
-        if not parts or not parts[-1][1] or not fails(data):
+        lines = [line for line, _ in cut(data)]
+        head = lines[:configuring(lines)]
+        if fault.line is not None and fails(b"\n".join(lines[:fault.line + 1]) + b"\n"):
+            lines = lines[:fault.line + 1]
+        elif not fails(b"\n".join(lines) + b"\n"):
             return data
-        lines = [line for line, _ in parts]
-        front = 1
-        while front < len(lines) and lines[front].split(b"\t")[0] == b"K":
-            front += 1
-        return narrow(lines[:front], lines[front:], fails)
+        return narrow(head, lines[len(head):], fails)
 
     def valgrind_part(self, count):
-        """So many lines more, under valgrind: it says nothing, and the answers are the same. (Address sanitizer is put in
-        by a C compiler; what compiles these programs has no such thing.)"""
+        """So many lines more, under valgrind: it says nothing, and the answers are the same. (Address sanitizer is put
+        in by a C compiler; what compiles these programs has no such thing.)"""
         if not shutil.which("valgrind"):
             print("valgrind is not installed: no line is run under it")
             return True
@@ -1280,7 +1293,8 @@ class Fuzz:
         for name, count in self.counts.items():
             print("%8d %s" % (count, name))
         complete = True
-        kinds = {"inspect": inspect_kinds(), "bearertrace": trace_kinds(ANSWERS), "tracedetail": trace_kinds(ANSWERS + SHORT)}
+        kinds = {"inspect": inspect_kinds(), "bearertrace": trace_kinds(ANSWERS),
+                 "tracedetail": trace_kinds(ANSWERS + SHORT)}
         for name, tally in self.tallies.items():
             print("%s answered:" % name)
             met = ["%s %d" % (kind, tally[kind]) for kind in sorted(tally)]

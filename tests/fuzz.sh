@@ -1,7 +1,7 @@
 #!/usr/bin/env bash
-# fuzz.sh [LINES [SEED [CHECKED [INSPECT [BEARERTRACE [TRACEDETAIL]]]]]]: fuzzing from outside. Makes LINES lines (1,000,000
-# unless given) by chance from those of tests/vectors, tests/appendix and samples, gives three fifths of them to inspect
-# and a fifth each to bearertrace and tracedetail, and looks that each program
+# fuzz.sh [LINES [SEED [CHECKED [INSPECT [BEARERTRACE [TRACEDETAIL]]]]]]: fuzzing from outside. Makes LINES lines
+# (1,000,000 unless given) by chance from those of tests/vectors, tests/appendix and samples, gives three fifths of them
+# to inspect and a fifth each to bearertrace and tracedetail, and looks that each program
 #   - ends by itself in time, with status 0, and writes nothing to standard error;
 #   - answers each line with one line, of a form that this kind of line can be answered with, rightly numbered;
 #   - answers as tests/model.py does (inspect), or as the rules of one endpoint in fuzz.py say (traces);

@@ -39,10 +39,10 @@ FAULTS = {
     "codec length": "places of identifier and length of codecs with a two-octet length: it looks an octet behind them",
     "inner length": "codec lists from a codec with a two-octet length on: it takes the second octet for the length",
     "diagnostics": "diagnostics of reports with over 255, past their number modulo 256: it counts in one octet",
-    "inside": "what follows addresses of AFI 35 or 45 whose inside is not X.213's: it gives up there",
+    "inside": "what follows addresses of AFI 35 or 45 that are no whole ICP or E.164 address: it gives up inside",
     "control": "what follows control information of one octet: it takes the next element's first for the second",
-    "text": "what follows control information for IPBCP that is no message: the dissector of the text may give up",
-    "quote": "lines behind a line with a lone quotation mark: it looks for the next mark before it looks for a line's end",
+    "text": "control information for IPBCP, past its indicators, that is no message as the card writes them",
+    "quote": "lines behind a line with a lone quotation mark: it looks for the next mark before a line's end",
     "attribute": "the inside of rtpmap and fmtp lines that say no codec or format: the line's octets are compared",
 }
 
@@ -50,19 +50,21 @@ Item = collections.namedtuple("Item", "name pos size octets number")
 
 
 def brief(x):
-    """A value for a reader: octets as digits, and not too many."""
+    """A value for a reader: octets as text or digits, and not too many; a field as its name, place, size, octets and
+    number."""
     if isinstance(x, bytes):
-        return x.hex().upper()[:60] or "-"
-    if isinstance(x, (tuple, list)):
-        return "(%s)" % ", ".join(brief(y) for y in x)
+        return repr(x.decode())[:80] if re.match(rb"[ -~]{3,}\Z", x) else x.hex().upper()[:80] or "-"
+    if isinstance(x, tuple):
+        return " ".join(brief(y) for y in x if y is not None)
     return str(x)[:200]
 
 
 class Report:
     """How many of one kind agree, what was not compared, and the first that differs."""
 
-    def __init__(self, kind):
+    def __init__(self, kind, word="written"):
         self.kind = kind
+        self.word = word
         self.agree = 0
         self.differ = 0
         self.notes = collections.Counter()
@@ -83,7 +85,7 @@ class Report:
     def end(self):
         """Prints the count, and says whether all agree."""
         total = self.agree + self.differ
-        print("%s: %d written, %d agree" % (self.kind, total, self.agree))
+        print("%s: %d %s, %d agree" % (self.kind, total, self.word, self.agree))
         for name, count in sorted((+self.notes).items()):
             print("  skipped: %d (%s)" % (count, FAULTS[name]))
         return self.differ == 0 and total > 0
@@ -162,7 +164,7 @@ ELEMENT = "element"
 IDENTIFIER, LENGTH = "bicc.bat_ase_identifier", "bicc.bat_ase_length_indicator"
 EXTENSION = "isup.extension_ind"
 # The parts of a compatibility octet: name, lowest bit, mask. No field shows bit 4; the whole octet is compared with
-# each, so that it is seen too.
+# each, so that it is seen too. Further octets, which the dissector does not look for, are never written.
 COMPATIBILITY = (
     (EXTENSION, 7, 1),
     ("bicc.bat_ase_Send_notification_ind_for_pass_on_not_possible", 6, 1),
@@ -234,19 +236,19 @@ class Layout:
         self.lost = True
 
     def element(self, e):
-        """A whole element, with its octets; the value's fields follow, those of inner elements too."""
+        """A whole element; the value's fields follow, those of inner elements too."""
         if self.lost:
             return
         self.need = 0
         whole = model.write_element(e.identifier, e.compatibility, e.contents)
-        end = self.at + len(whole)
+        end, size = self.at + len(whole), len(whole)
         if len(e.contents) > 126:
             # The length counts neither the identifier nor its own octets, here three together.
             self.notes.append("whole")
-            whole = whole[:-1]
+            size -= 1
         # In front of an element it shows bit 8 of the first length octet.
         self.items.append(Item(EXTENSION, self.at + 1, 1, whole[1:2], whole[1] >> 7))
-        self.show(ELEMENT, whole)
+        self.items.append(Item(ELEMENT, self.at, size, None, None))
         self.header(e)
         getattr(self, "value_%d" % e.identifier, self.value_number)(e)
         self.at = self.at if self.lost else end
@@ -281,8 +283,8 @@ class Layout:
     def value_3(self, e):
         octets = octets_of(e.value)
         self.take("bat_ase.biwfa", octets)
-        # X.213 gives addresses of these two formats 20 octets, and those of 45 eight octets of decimal digits. The card
-        # takes 1 to 20 octets, and carries them as they are.
+        # It looks inside these two formats for 20 octets, and for decimal digits behind 45. The card takes 1 to 20
+        # octets and carries them as they are.
         digits = octets[1:9].hex().isdecimal()
         if octets[0] in (0x35, 0x45) and (len(octets) < 20 or octets[0] == 0x45 and not digits):
             self.lose("inside")
@@ -358,9 +360,14 @@ class Layout:
             self.take("isup.tunnelled_protocol_data", octets[2:])
             return
         self.items.append(Item("sdp", self.at, len(octets) - 2, None, None))
-        self.at += len(octets) - 2
-        if not model.message(octets[2:]).startswith("1 ") or not all(is_regular(l) for l in octets[2:].split(b"\r\n")):
+        m = described(octets[2:])
+        if m is None or text(m) != octets[2:] or not all(is_regular(l) for l in lines_of(m)):
             self.lose("text")
+            return
+        for line in lines_of(m):
+            own, parts = expected_line(line, self.at)
+            self.items += [own] + parts
+            self.at += len(line) + 2
 
     def value_9(self, e):
         # The bits that are not read are written 0.
@@ -503,33 +510,28 @@ def segments(data, reference):
 
 
 def shown_elements(packet):
-    """What is shown of application data, in its order."""
+    """What is shown of application data, in its order, and the data as a whole."""
     for node in packet.iter("field"):
         if (node.get("show") or "").startswith("Bearer Association Transport"):
-            return [i for child in node for i in shown_below(child)]
-    return []
+            return [i for child in node for i in shown_below(child)], item_of(node).octets
+    return [], b""
 
 
 def shown_below(node):
     name = node.get("name") or ""
     if name.startswith(INSIDE):
         return
-    if name == "":
-        yield item_of(node)._replace(name=ELEMENT)
-    elif name == "sdp":
-        # Its fields are compared where messages are.
-        yield item_of(node)
-        return
-    else:
-        yield item_of(node)
+    yield item_of(node)._replace(name=name or ELEMENT)
     for child in node:
         yield from shown_below(child)
 
 
 def lay(elements, at):
+    """The layout of elements, and the data as a whole."""
     layout = Layout(at)
     for e in elements:
         layout.element(e)
+    layout.data = b"".join(model.write_element(*e[:2], e.contents) for e in elements)
     return layout
 
 
@@ -568,11 +570,21 @@ def written_elements(inspect, report):
     return written
 
 
+def agreeable(layout, packet):
+    """What a packet is to show and what it shows, as lists that are equal where it agrees: fields, complaints, data."""
+    got, data = shown_elements(packet)
+    want = layout.items
+    got = [looked_at(w, g) for w, g in zip(want, got)] + got[len(want):]
+    if layout.lost:
+        return want + [layout.data], got[:len(want)] + [data]
+    return want + sorted(layout.complaints) + [layout.data], got + sorted(complaints(packet)) + [data]
+
+
 def compare_elements(directory):
     """Each element in a message of its own, and many in one."""
-    refused = Report("rewrite, lines that write nothing")
+    refused = Report("rewrite, nothing written", "lines")
     written = written_elements(os.path.join(directory, "inspect"), refused)
-    alone, together = Report("elements, one by one"), Report("elements, end to end (strings)")
+    alone, together = Report("elements, one by one"), Report("elements, end to end", "strings")
     strings = plan([(e, octets) for _, e, octets in written])
     pdus, wanted = [], {}
     for n, (data, elements) in enumerate(strings):
@@ -583,15 +595,7 @@ def compare_elements(directory):
         if i not in wanted:
             continue
         n, layout = wanted[i]
-        got = shown_elements(packet)
-        want = layout.items
-        if layout.lost:
-            got = got[:len(want)]
-        else:
-            want = want + sorted(layout.complaints)
-            got = got + sorted(complaints(packet))
-        got = [looked_at(w, g) if isinstance(w, Item) and isinstance(g, Item) else g
-               for w, g in zip(want + [None] * len(got), got)]
+        want, got = agreeable(layout, packet)
         if n < len(written):
             alone.notes.update(layout.notes)
             alone.compare("rewrite " + written[n][0], want, got)
@@ -619,7 +623,8 @@ def reply_to(buffer, data):
 
 
 def bits_of(parts):
-    """What the dissector is to show of a reply: each part, and the fixed bits in the octets that it is read from."""
+    """What the dissector is to show of a reply: each part. It shows no fixed bit and judges none, so the two octets
+    from which the parts are read are compared with each."""
     version_error, version, protocol_error, protocol = parts
     octets = bytes([0x20 | version_error << 6 | version, protocol_error << 6 | protocol])
     names = ("bctp.bvei", "bctp.bvi", "bctp.tpei", "bctp.tpi")
@@ -634,7 +639,7 @@ def tunnel_lines():
 
 def compare_replies(directory):
     """The replies of inspect's `tunnel` to the vectors, and to every pair of first octets."""
-    other, replies = Report("tunnel, lines without a reply"), Report("tunnel replies")
+    other, replies = Report("tunnel, no reply", "lines"), Report("tunnel replies")
     lines = tunnel_lines()
     written = []
     for line, answer in zip(lines, run_lines(os.path.join(directory, "inspect"), ["tunnel " + l for l in lines])):
@@ -743,6 +748,10 @@ def shown_line(node, want):
     return looked_at(own, item_of(node)), [looked_at(w, g) for w, g in zip(parts, got)] + got[len(parts):] + bad
 
 
+def flat(lines):
+    return [item for own, parts in lines for item in [own] + (parts or [])]
+
+
 def compare_message(report, what, packet, m, at, octets):
     """One message that is shown from a place on. Lines stand end to end with CRLF behind each: their places say so."""
     wanted, quoted = [], False
@@ -759,11 +768,11 @@ def compare_message(report, what, packet, m, at, octets):
     nodes = [n for p in packet.iter("proto") if p.get("name") == "sdp" for n in p]
     got = [shown_line(node, want) for node, want in zip(nodes, wanted)]
     if not quoted:
-        got += [n.get("name") for n in nodes[len(wanted):]]
+        got += [(item_of(n), None) for n in nodes[len(wanted):]]
     odd = sum(parts is None for _, parts in wanted)
     report.notes["attribute"] += odd
     bad = [] if odd else sorted(complaints(packet))
-    report.compare(what, wanted + [at], got + bad + [PDU + len(octets)])
+    report.compare(what, flat(wanted) + ["end %d" % at], flat(got) + bad + ["end %d" % (PDU + len(octets))])
 
 
 def messages(rng):
@@ -790,22 +799,27 @@ def messages(rng):
 
 
 def packet_inputs():
-    """Messages for PACKET: the vectors that are described, and those that are made up here."""
+    """Messages for PACKET: the vectors, and those that are made up here."""
     with open(os.path.join(VECTORS, "message.in")) as f:
         inputs = [octets_of(l) for l in f.read().split("\n")[:-1]]
-    return [i for i in inputs if described(i)] + [text(m) for m in messages(random.Random(2))]
+    return inputs + [text(m) for m in messages(random.Random(2))]
 
 
 def written_packets(program, report):
-    """The packets that PACKET writes, with what is to be in them; a message over 447 octets is refused by 5."""
+    """The packets that PACKET writes, with what is to be in them. A message that is a version and a type alone writes
+    none, and one that would have over 447 octets is refused by 5."""
     inputs = packet_inputs()
     written = []
-    for data, answer in zip(inputs, run_lines(program, [i.hex().upper() for i in inputs])):
+    for data, answer in zip(inputs, run_lines(program, [i.hex().upper() or "-" for i in inputs])):
+        what = "packet " + data.hex().upper()
         m = described(data)
-        if len(text(m)) > 447 or not re.match("(?:[0-9A-F]{2})+$", answer):
-            report.compare("packet " + data.hex().upper(), "refused-5" if len(text(m)) > 447 else "a packet", answer)
+        if m is None:
+            read = model.message(data)
+            report.compare(what, read if read.startswith("refused") else "-", answer)
+        elif len(text(m)) > 447 or answer == "-" or answer.startswith("refused"):
+            report.compare(what, "refused-5" if len(text(m)) > 447 else "a packet", answer)
         else:
-            written.append(("packet " + data.hex().upper(), m, bytes.fromhex(answer)))
+            written.append((what, m, bytes.fromhex(answer)))
     return written
 
 
@@ -872,7 +886,7 @@ def written_messages(program, report):
 
 def compare_traces(directory):
     """The messages of the traces, bare and behind the indicators of a tunnel packet."""
-    none = Report("events that write nothing")
+    none = Report("traces, nothing written", "events")
     written = written_messages(os.path.join(directory, "tracedetail"), none)
     bare, tunnelled = Report("messages, bare"), Report("messages, tunnelled")
     for (what, m, octets), packet in zip(written, dissect("sdp", [o for _, _, o in written])):
@@ -893,7 +907,7 @@ def compare_packets(report, written):
 
 
 def compare_rewritten(program):
-    refused, packets = Report("packets that are refused"), Report("packets with a message")
+    refused, packets = Report("packets, nothing written", "messages"), Report("packets with a message")
     compare_packets(packets, written_packets(program, refused))
     return [refused, packets]
 

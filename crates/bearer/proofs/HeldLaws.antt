@@ -6,12 +6,12 @@ use mathlib.Core.Path.{_≡_, refl}
 use mathlib.Core.List.{List, [], _∷_, _++_, map}
 use mathlib.Core.Bool.{Bool, true, false, _&&_, cond, and-eq-true-iff}
 use mathlib.Core.Option.{none, some}
-use lib.ListN.{length, drop, replicate, length-drop, length-replicate}
+use lib.ListN.{length, drop, replicate, length-append, length-drop, length-replicate}
 use lib.Seq.{take-all, take-append-le, drop-append-le}
 use lib.Dec.{leb}
 use native.Mathlib.Nat.{zero-add}
 use native.Mathlib.Omega.{arith}
-use borrow.Author.Tests.{leb-true, lt-leb}
+use borrow.Author.Tests.{leb-true, le-leb, lt-leb}
 use Rattle.octets.specs.declared.Span.{Span}
 use Rattle.octets.specs.Spans.{textOf, inside}
 use Rattle.octets.specs.Append.{put, appended}
@@ -24,7 +24,7 @@ use Rattle.ipbcp.specs.Reading.{mostOctets}
 use Rattle.bearer.specs.Bearer.{Bearer}
 use Rattle.bearer.specs.Hearing.{unreadable, request, accepted, heard}
 use Rattle.bearer.specs.Judging.{restated}
-use Rattle.bearer.specs.Meaning.{bearerBy, heldAs, placesAs}
+use Rattle.bearer.specs.Meaning.{bearerBy, bearerInside, heldAs, placesAs}
 
 -- ---- what a stream stands for, if it lies inside
 module _ (m : List ℕ) (s : Places) (t : Stream) (h : streamIn m s ≡ some t) where
@@ -69,6 +69,27 @@ module _ (m z : List ℕ) where
       let (_, g) = and-eq-true-iff (leb (s .fmtp .count) 3) (allIn m (spansOf (s .fmtp))) .0 f in
       rw (text-front (s .media) a, text-front (s .transport) c, text-front (s .rtpmap) e, texts-front (spansOf (s .fmtp)) g)
 
+  inside-front : (p : Span) → inside m p ≡ true → inside (m ++ z) p ≡ true
+  inside-front p h =
+      let k : p .at + p .len ≤ length m = leb-true (p .at + p .len) (length m) h in
+      le-leb (p .at + p .len) (length (m ++ z)) (omega (arith, length-append m z))
+
+  all-front : (ps : List Span) → allIn m ps ≡ true → allIn (m ++ z) ps ≡ true
+  unfolding allIn
+  all-front [] h = refl
+  all-front (p ∷ ps) h =
+      let (a, b) = and-eq-true-iff (inside m p) (allIn m ps) .0 h in
+      rw (inside-front p a, all-front ps b)
+
+  stream-inside-front : (s : Places) → streamInside m s ≡ true → streamInside (m ++ z) s ≡ true
+  unfolding streamInside
+  stream-inside-front s h =
+      let (a, b) = and-eq-true-iff (inside m (s .media)) (inside m (s .transport) && (inside m (s .rtpmap) && textsInside m (s .fmtp))) .0 h in
+      let (c, d) = and-eq-true-iff (inside m (s .transport)) (inside m (s .rtpmap) && textsInside m (s .fmtp)) .0 b in
+      let (e, f) = and-eq-true-iff (inside m (s .rtpmap)) (textsInside m (s .fmtp)) .0 d in
+      let (n, g) = and-eq-true-iff (leb (s .fmtp .count) 3) (allIn m (spansOf (s .fmtp))) .0 f in
+      rw (inside-front (s .media) a, inside-front (s .transport) c, inside-front (s .rtpmap) e, n, all-front (spansOf (s .fmtp)) g)
+
 -- ---- the bearer of a message
 appended-front : (l m : List ℕ) → length m ≤ length l → appended l 0 m ≡ m ++ drop (length m) l
 unfolding appended put
@@ -81,6 +102,13 @@ held-names m a s t h k =
     let l : List ℕ = replicate mostOctets 0 in
     let n : length l ≡ mostOctets = length-replicate {A = ℕ} mostOctets 0 in
     rw (appended-front l m (omega arith), stream-front m (drop (length m) l) s (streamIn-inside m s t h), ← streamIn-by m s t h)
+
+-- its texts lie inside its array
+pub held-inside : (m : List ℕ) (a : Address) (s : Places) (t : Stream) → streamIn m s ≡ some t → length m ≤ mostOctets → bearerInside (heldAs a s m) ≡ true
+held-inside m a s t h k =
+    let l : List ℕ = replicate mostOctets 0 in
+    let n : length l ≡ mostOctets = length-replicate {A = ℕ} mostOctets 0 in
+    rw (appended-front l m (omega arith)) (stream-inside-front m (drop (length m) l) s (streamIn-inside m s t h))
 
 -- ---- messages that are heard are short
 short-or : (m : List ℕ) → (heard m ≡ unreadable → ⊥) → length m ≤ mostOctets

@@ -9,7 +9,7 @@ use Rattle.octets.specs.Append.{appended}
 use Rattle.address.specs.declared.Address.{Address}
 use Rattle.media.specs.declared.Stream.{Stream as Places}
 use Rattle.media.specs.Stream.{Stream}
-use Rattle.media.specs.Meaning.{streamBy, streamIn}
+use Rattle.media.specs.Meaning.{streamBy, streamInside, streamIn}
 use Rattle.ipbcp.specs.Reading.{mostOctets}
 use Rattle.bearer.specs.declared.Request.{Request}
 use Rattle.bearer.specs.declared.Bearer as held
@@ -23,6 +23,13 @@ requestBy q = streamBy (q .text) (q .stream)
 
 unfoldable pub bearerBy : held.Bearer → Bearer
 bearerBy b = record { address = b .address; stream = streamBy (b .text) (b .stream) }
+
+-- their texts lie inside the array beside them
+abbrev pub requestInside : Request → Bool
+requestInside q = streamInside (q .text) (q .stream)
+
+abbrev pub bearerInside : held.Bearer → Bool
+bearerInside b = streamInside (b .text) (b .stream)
 
 -- the bearer that a message names, whose texts are in the message
 unfoldable pub namedBy : List ℕ → Address → Places → Bearer

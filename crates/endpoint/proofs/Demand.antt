@@ -25,8 +25,8 @@ use Rattle.endpoint.specs.declared.Answer.{Answer}
 use Rattle.endpoint.specs.declared.Opening.{Opening}
 use Rattle.endpoint.specs.Call.{Opens}
 use Rattle.endpoint.specs.Rule.{Event, Given, rule, exchanged}
-use Rattle.endpoint.specs.Step.{bookBy, bookOf, replyFor, outFor, Did}
-use Rattle.endpoint.specs.Claim.{Line, toldBy, seen, Runs, begun, after, Fresh, kept, Demand3}
+use Rattle.endpoint.specs.Step.{Inside, bookBy, bookOf, replyFor, outFor, Did}
+use Rattle.endpoint.specs.Demand.{Line, toldBy, seen, Runs, begun, after, Fresh, kept, Demand3}
 use Rattle.endpoint.proofs.Ruled.{rule-laws}
 
 abbrev Log : Type 0
@@ -89,3 +89,8 @@ opened-fresh c o h e = record { right = by-bool (rightConfig c) _ (λ t. t) (λ 
         let b : Refused 12 ≡ Usable = rw t at a in
         let z : _≡_ {A = ℕ} 0 1 = cc in
         omega arith
+
+-- whatever happens to such an endpoint, the texts of the Request and of the bearer that it holds lie inside their arrays
+pub texts-inside : (c : Config) (o : Opening) → Opens c o → {gs : List Given} {ls : List Line} {f : Endpoint} → Runs (o .endpoint) gs ls f → Inside f
+texts-inside c o h begun = h .inside
+texts-inside c o h (after run x xs ys r did) = did .inside (texts-inside c o h run)

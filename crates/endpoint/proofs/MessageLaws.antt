@@ -32,8 +32,8 @@ use Rattle.bearer.specs.Bearer.{Bearer}
 use Rattle.bearer.specs.Hearing as hears
 use Rattle.bearer.specs.Hearing.{Heard, heard}
 use Rattle.bearer.specs.Judging.{rightRequest, nearest, restated, granted, answerTo, rightAccepted}
-use Rattle.bearer.specs.Meaning.{requestBy, bearerBy, namedBy, heardIn, heldAs, heldIf, placesAs}
-use Rattle.bearer.proofs.HeldLaws.{streamIn-by, restated-by, held-names, heard-short, accepted-short}
+use Rattle.bearer.specs.Meaning.{requestBy, bearerBy, bearerInside, namedBy, heardIn, heldAs, heldIf, placesAs}
+use Rattle.bearer.proofs.HeldLaws.{streamIn-by, restated-by, held-names, held-inside, heard-short, accepted-short}
 use Rattle.endpoint.specs.declared.Endpoint.{Endpoint}
 use Rattle.endpoint.specs.declared.Answer.{Answer}
 use Rattle.endpoint.specs.Rule.{Verdict, Event, rejecting, accepting, judging, taking, answering, hearing, leastRoom}
@@ -53,6 +53,16 @@ awaited-no Idle s q b h = refl
 awaited-no AwaitSetup s q b h = absurd (false≢true (sym h))
 awaited-no Up s q b h = refl
 awaited-no AwaitChange s q b h = absurd (false≢true (sym h))
+
+-- ---- what is held of a message lies inside: as it was named, or with another port and packet time
+pub kept-inside : (a : Address) (s : Places) (m : List ℕ) (b : held.Bearer) → Readable m s → b ≡ heldAs a s m → bearerInside b ≡ true
+kept-inside a s m b k e = rw e (held-inside m a s (streamBy m s) (k .inside) (k .short))
+
+pub kept-restated : (a : Address) (s u : Places) (m xs : List ℕ) (b : held.Bearer) (port ptime : ℕ) → Answerable m s xs → u ≡ placesAs port ptime s → b ≡ heldAs a u m → bearerInside b ≡ true
+kept-restated a s u m xs b port ptime k p e =
+    let r = k .readable in
+    rw (e, p)
+    (held-inside m a (placesAs port ptime s) (restated port ptime (streamBy m s)) (restated-by m s (streamBy m s) port ptime (r .inside)) (r .short))
 
 module _ (self : Endpoint) where
   -- ---- a peer's Request: discarded, or given the verdict v

@@ -39,7 +39,7 @@ use Rattle.endpoint.specs.declared.Reply.{Reply}
 use Rattle.endpoint.specs.declared.Reply.the-variants.{Refused, Done}
 use Rattle.endpoint.specs.Rule.{Book, Verdict, Event, Given, commanding, confusing, rejecting, judging, taking, answering, hearing, ruled, rule, exchanged, leastRoom}
 use Rattle.endpoint.specs.Step.{bookOf, Gave, Did}
-use Rattle.endpoint.specs.Claim.{toldBy}
+use Rattle.endpoint.specs.Demand.{toldBy}
 use Rattle.endpoint.specs.Promises.{rightIn, Discards, Takes, Judges, Confuses}
 use Rattle.endpoint.proofs.Ruled.{either, rule-laws}
 use Rattle.endpoint.proofs.Demand.{told-back}
@@ -102,11 +102,11 @@ module _ (c : Configuration) (f : Option Bearer) (q : Stream) where
 
 -- m is an Accepted of any version, not too long, and comes while our Request q is open, with a buffer that is long enough
 pub accepted-exactly : (self : Endpoint) (q : Stream) (m xs ys : List ℕ) (version : ℕ) (r : Answer) → Did self (Event.message m) xs ys r
-    → leastRoom ≤ length xs → length m ≤ mostOctets → headIn m ≡ Typed version kind.Accepted → awaited (bookOf self) ≡ some q → Takes self q m r
+    → leastRoom ≤ length xs → length m ≤ mostOctets → headIn m ≡ Typed version kind.Accepted → awaited (bookOf self) ≡ some q → Takes self q m xs ys r
 accepted-exactly self q m xs ys version r did room short head awaits =
     record {
-      right = λ d e h. let g = gave (agreed d) (taking-right c (settled (bookOf self)) q (bearerIn (readMessage m)) d e h) in (g .book, g .reply);
-      wrong = λ h. let g = gave failed (taking-wrong c (settled (bookOf self)) q (bearerIn (readMessage m)) h) in (g .book, g .reply);
+      right = λ d e h. let g = gave (agreed d) (taking-right c (settled (bookOf self)) q (bearerIn (readMessage m)) d e h) in (g .book, g .reply, g .out);
+      wrong = λ h. let g = gave failed (taking-wrong c (settled (bookOf self)) q (bearerIn (readMessage m)) h) in (g .book, g .reply, g .out);
     }
   where
     c : Configuration

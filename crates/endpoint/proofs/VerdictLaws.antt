@@ -3,23 +3,31 @@
 -- Assumes nothing.
 use Prim.Native.Nat.{ℕ}
 use mathlib.Core.Path.{_≡_, refl, _∙_, ap}
-use mathlib.Core.Bool.{Bool, false}
+use mathlib.Core.Bool.{Bool, true, false}
+use mathlib.Core.List.{List}
 use Rattle.book.specs.declared.State.{State}
 use Rattle.book.specs.declared.State.the-variants.{Idle, AwaitSetup, Up, AwaitChange}
 use Rattle.book.specs.declared.Side.{Side}
 use Rattle.book.specs.declared.Side.the-variants.{I, R}
 use Rattle.book.specs.declared.Notice.{Notice}
 use Rattle.book.specs.declared.Notice
-use Rattle.book.specs.Book.{discarded, opened, agreed, failed, confused, accepted, rejected}
+use Rattle.book.specs.Book.{discarded, opened, agreed, failed, released, confused, accepted, rejected}
 use Rattle.book.specs.Book.{closed, opening, settling, stateOf, settled, ignores, byBearer, drops}
 use Rattle.book.specs.States.{closedState, openedState, settledSide, byState, holdsAt, dropsAt, ignoresAt}
+use Rattle.media.specs.declared.Stream.{Stream as Places}
 use Rattle.media.specs.Stream.{Stream}
+use Rattle.media.specs.Meaning.{streamInside}
+use Rattle.address.specs.declared.Address.{Address}
+use Rattle.configuration.specs.declared.Config.{Config}
+use Rattle.configuration.specs.declared.Checked.{Checked}
+use Rattle.configuration.specs.Meaning.{checked}
 use Rattle.bearer.specs.declared.Request as ours
 use Rattle.bearer.specs.declared.Bearer as held
 use Rattle.bearer.specs.Bearer.{Bearer}
-use Rattle.bearer.specs.Meaning.{requestBy, bearerBy, heldIf}
+use Rattle.bearer.specs.Meaning.{requestBy, bearerBy, requestInside, bearerInside, heldIf}
 use Rattle.endpoint.specs.declared.Endpoint.{Endpoint}
 use Rattle.endpoint.specs.declared.Reply.the-variants.{Done}
+use Rattle.endpoint.specs.Call.{Opens}
 use Rattle.endpoint.specs.Step.{bookBy, bookOf, Same, Silent, Says}
 
 -- ---- the book's functions, read on the state and the side
@@ -95,27 +103,30 @@ module _ (self : Endpoint) where
       record {
         config = refl;
         book = ap (λ (t : State). bookBy t (self .side) (requestBy (self .request)) (bearerBy (self .bearer))) p ∙ closed-by (self .state) (self .side) (requestBy (self .request)) (bearerBy (self .bearer));
+        inside = λ i. record { request = i .request; bearer = i .bearer };
       }
 
-  pub same-opening : (q : ours.Request) (s : State) → s ≡ openedState (self .state)
+  pub same-opening : (q : ours.Request) (s : State) → requestInside q ≡ true → s ≡ openedState (self .state)
       → Same self (record { config = self .config; state = s; side = self .side; request = q; bearer = self .bearer }) (opening (requestBy q) (bookOf self))
-  same-opening q s p =
+  same-opening q s k p =
       record {
         config = refl;
         book = ap (λ (t : State). bookBy t (self .side) (requestBy q) (bearerBy (self .bearer))) p ∙ opened-by (self .state) (self .side) (requestBy (self .request)) (requestBy q) (bearerBy (self .bearer));
+        inside = λ i. record { request = k; bearer = i .bearer };
       }
 
-  pub same-settling : (b : held.Bearer) (s : Side) → s ≡ settledSide (self .state) (self .side)
+  pub same-settling : (b : held.Bearer) (s : Side) → bearerInside b ≡ true → s ≡ settledSide (self .state) (self .side)
       → Same self (record { config = self .config; state = Up; side = s; request = self .request; bearer = b }) (settling (bearerBy b) (bookOf self))
-  same-settling b s p =
+  same-settling b s k p =
       record {
         config = refl;
         book = ap (λ (t : Side). bookBy Up t (requestBy (self .request)) (bearerBy b)) p ∙ settled-by (self .state) (self .side) (requestBy (self .request)) (bearerBy (self .bearer)) (bearerBy b);
+        inside = λ i. record { request = i .request; bearer = k };
       }
 
   -- ---- the answer of each verdict
   pub gave-discarded : Silent self discarded (record { endpoint = self; reply = Done (self .state) Notice.Discarded 0 false })
-  gave-discarded xs = record { config = refl; book = refl; reply = ap (λ (s : State). Done s Notice.Discarded 0 false) here; out = refl; unaltered = refl }
+  gave-discarded xs = record { config = refl; book = refl; reply = ap (λ (s : State). Done s Notice.Discarded 0 false) here; out = refl; unaltered = refl; inside = λ i. i }
 
   pub gave-failed : (e : Endpoint) (s : State) (n : Notice) → s ≡ closedState (self .state) → n ≡ byState (self .state) Notice.SetupFailed Notice.ChangeFailed
       → Same self e (closed (bookOf self)) → Silent self failed (record { endpoint = e; reply = Done s n 0 false })
@@ -126,23 +137,32 @@ module _ (self : Endpoint) where
         reply = cc (noticed Notice.SetupFailed Notice.ChangeFailed, after-close);
         out = refl;
         unaltered = tt;
+        inside = h .inside;
       }
+
+  pub gave-released : Silent self released (record { endpoint = record { config = self .config; state = Idle; side = self .side; request = self .request; bearer = self .bearer }; reply = Done Idle Notice.Released 0 false })
+  gave-released xs = record { config = refl; book = refl; reply = refl; out = refl; unaltered = tt; inside = λ i. record { request = i .request; bearer = i .bearer } }
 
   pub gave-agreed : (b : Bearer) (e : Endpoint) (n : Notice) → n ≡ byState (self .state) Notice.Up Notice.Changed
       → Same self e (settling b (bookOf self)) → Silent self (agreed b) (record { endpoint = e; reply = Done Up n 0 false })
-  gave-agreed b e n p h xs = record { config = h .config; book = h .book; reply = cc (noticed Notice.Up Notice.Changed); out = refl; unaltered = tt }
+  gave-agreed b e n p h xs = record { config = h .config; book = h .book; reply = cc (noticed Notice.Up Notice.Changed); out = refl; unaltered = tt; inside = h .inside }
 
   pub gave-opened : (q : Stream) (w : ℕ) (e : Endpoint) (s : State) → s ≡ openedState (self .state)
       → Same self e (opening q (bookOf self)) → Says self (λ o. opened q o) w (record { endpoint = e; reply = Done s Notice.None w false })
-  gave-opened q w e s p h o xs l = record { config = h .config; book = h .book; reply = cc (after-open q); out = refl; unaltered = tt }
+  gave-opened q w e s p h o xs l = record { config = h .config; book = h .book; reply = cc (after-open q); out = refl; unaltered = tt; inside = h .inside }
 
   pub gave-confused : (w : ℕ) → Says self (λ o. confused o) w (record { endpoint = self; reply = Done (self .state) Notice.Confused w false })
-  gave-confused w o xs l = record { config = refl; book = refl; reply = cc here; out = refl; unaltered = refl }
+  gave-confused w o xs l = record { config = refl; book = refl; reply = cc here; out = refl; unaltered = refl; inside = λ i. i }
 
   pub gave-accepted : (b : Bearer) (w : ℕ) (e : Endpoint) (n : Notice) (d : Bool) → n ≡ byState (self .state) Notice.Up Notice.Changed → d ≡ dropsAt (self .state)
       → Same self e (settling b (bookOf self)) → Says self (λ o. accepted b o) w (record { endpoint = e; reply = Done Up n w d })
-  gave-accepted b w e n d p q h o xs l = record { config = h .config; book = h .book; reply = cc (noticed Notice.Up Notice.Changed, dropped); out = refl; unaltered = tt }
+  gave-accepted b w e n d p q h o xs l = record { config = h .config; book = h .book; reply = cc (noticed Notice.Up Notice.Changed, dropped); out = refl; unaltered = tt; inside = h .inside }
 
   pub gave-rejected : (w : ℕ) (e : Endpoint) (s : State) (d : Bool) → s ≡ closedState (self .state) → d ≡ dropsAt (self .state)
       → Same self e (closed (bookOf self)) → Says self (λ o. rejected o) w (record { endpoint = e; reply = Done s Notice.Rejected w d })
-  gave-rejected w e s d p q h o xs l = record { config = h .config; book = h .book; reply = cc (after-close, dropped); out = refl; unaltered = tt }
+  gave-rejected w e s d p q h o xs l = record { config = h .config; book = h .book; reply = cc (after-close, dropped); out = refl; unaltered = tt; inside = h .inside }
+
+-- ---- a fresh endpoint, whose streams s say nothing
+pub opens : (c : Config) (x : Checked) (i : Side) (a : Address) (s : Places) (xs ys : List ℕ) → x ≡ checked c → ((m : List ℕ) → streamInside m s ≡ true)
+    → Opens c (record { checked = x; endpoint = record { config = c; state = Idle; side = i; request = record { stream = s; text = xs }; bearer = record { address = a; stream = s; text = ys } } })
+opens c x i a s xs ys e h = record { checked = e; config = refl; idle = refl; inside = record { request = h xs; bearer = h ys } }

@@ -9,6 +9,7 @@ use Rattle.endpoint.specs.declared.Opening.{Opening}
 use Rattle.endpoint.specs.declared.Call.{Call}
 use Rattle.endpoint.specs.declared.Call.the-variants.{SetUp, Change, Release, T1, T2, Message}
 use Rattle.endpoint.specs.Rule.{Event, setUp, change, release, t1, t2, message}
+use Rattle.endpoint.specs.Step.{Inside}
 
 -- m is the message that stands beside the call
 abbrev pub eventOf : Call → List ℕ → Event
@@ -19,8 +20,9 @@ eventOf T1 m = t1
 eventOf T2 m = t2
 eventOf Message m = message m
 
--- number 12 or none, and an idle endpoint with the configuration
+-- number 12 or none, and an idle endpoint with the configuration, whose texts lie inside
 pub record Opens (c : Config) (r : Opening) : Type 0 where
   pub checked : r .checked ≡ checked c
   pub config : r .endpoint .config ≡ c
   pub idle : r .endpoint .state ≡ Idle
+  pub inside : Inside (r .endpoint)

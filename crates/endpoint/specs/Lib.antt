@@ -1,8 +1,8 @@
 -- What the contracts of this crate speak of. `Rule` is document 01's "One endpoint" as a function of configuration, book and event;
--- `Step` says what a method does by it; `Call` names the event of a call and what opening an endpoint answers; `Claim` is demand 3;
+-- `Step` says what a method does by it; `Call` names the event of a call and what opening an endpoint answers; `Demand` is demand 3;
 -- `Promises` is what else can be quoted.
 pub mod Rule
 pub mod Step
 pub mod Call
-pub mod Claim
+pub mod Demand
 pub mod Promises

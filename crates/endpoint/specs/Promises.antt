@@ -40,13 +40,13 @@ abbrev pub isRightAccepted : Endpoint → Stream → List ℕ → Bool
 isRightAccepted self q m = rightIn (rightAccepted (configurationBy (self .config)) (settled (bookOf self)) q) (bearerIn (readMessage m))
 
 -- m puts its bearer in force exactly when it is right: the one notice or the other, and nothing is written
-pub record Takes (self : Endpoint) (q : Stream) (m : List ℕ) (r : Answer) : Type 0 where
+pub record Takes (self : Endpoint) (q : Stream) (m before after : List ℕ) (r : Answer) : Type 0 where
   -- right: its bearer is in force
   pub right : (d : Bearer) → bearerIn (readMessage m) ≡ some d → isRightAccepted self q m ≡ true
-      → (bookOf (r .endpoint) ≡ settling d (bookOf self)) × (r .reply ≡ Done Up (byBearer (bookOf self) Notice.Up Notice.Changed) 0 false)
+      → (bookOf (r .endpoint) ≡ settling d (bookOf self)) × (r .reply ≡ Done Up (byBearer (bookOf self) Notice.Up Notice.Changed) 0 false) × (after ≡ before)
   -- wrong: the attempt is over, and the bearer in force, if there is one, stays
   pub wrong : isRightAccepted self q m ≡ false
-      → (bookOf (r .endpoint) ≡ closed (bookOf self)) × (r .reply ≡ Done (stateOf (closed (bookOf self))) (byBearer (bookOf self) Notice.SetupFailed Notice.ChangeFailed) 0 false)
+      → (bookOf (r .endpoint) ≡ closed (bookOf self)) × (r .reply ≡ Done (stateOf (closed (bookOf self))) (byBearer (bookOf self) Notice.SetupFailed Notice.ChangeFailed) 0 false) × (after ≡ before)
 
 -- ---- demand 2: a peer's Request
 abbrev pub isRightRequest : Endpoint → List ℕ → Bool

@@ -12,12 +12,12 @@ use Rattle.book.specs.Book.{idle, awaitSetup, up, awaitChange, moved, answered,
 use Rattle.book.specs.Book as told
 use Rattle.media.specs.declared.Stream.{Stream as Places}
 use Rattle.media.specs.Stream.{Stream}
-use Rattle.media.specs.Meaning.{streamBy, streamInside, streamIn}
+use Rattle.media.specs.Meaning.{streamBy, streamIn}
 use Rattle.ipbcp.specs.Reading.{mostOctets}
 use Rattle.configuration.specs.Meaning.{configurationBy}
 use Rattle.bearer.specs.declared.Request.{Request}
 use Rattle.bearer.specs.Bearer.{Bearer}
-use Rattle.bearer.specs.Meaning.{requestBy, bearerBy}
+use Rattle.bearer.specs.Meaning.{requestBy, bearerBy, requestInside, bearerInside}
 use Rattle.endpoint.specs.declared.Endpoint.{Endpoint}
 use Rattle.endpoint.specs.declared.Answer.{Answer}
 use Rattle.endpoint.specs.declared.Reply.{Reply}
@@ -34,10 +34,16 @@ bookBy AwaitChange s q b = awaitChange s b q
 abbrev pub bookOf : Endpoint → Book
 bookOf e = bookBy (e .state) (e .side) (requestBy (e .request)) (bearerBy (e .bearer))
 
--- r has the configuration of self and the book k
+-- the texts of the Request and of the bearer that e holds lie inside the arrays beside them: no length is made up
+pub record Inside (e : Endpoint) : Type 0 where
+  pub request : requestInside (e .request) ≡ true
+  pub bearer : bearerInside (e .bearer) ≡ true
+
+-- r has the configuration of self and the book k, and its texts lie inside where those of self do
 pub record Same (self r : Endpoint) (k : Book) : Type 0 where
   pub config : r .config ≡ self .config
   pub book : bookOf r ≡ k
+  pub inside : Inside self → Inside r
 
 -- the octets o at the front of xs, and what of xs lies past them
 abbrev pub written : List ℕ → List ℕ → List ℕ
@@ -66,13 +72,14 @@ Unaltered (told.accepted b o) self r = Unit {0}
 Unaltered (told.rejected o) self r = Unit {0}
 
 -- What an event whose verdict is v does: the configuration stays, the book moves, and the reply and what the output buffer then
--- holds are the book's.
+-- holds are the book's. Texts lie inside as before.
 pub record Gave (self : Endpoint) (v : Verdict) (before after : List ℕ) (r : Answer) : Type 0 where
   pub config : r .endpoint .config ≡ self .config
   pub book : bookOf (r .endpoint) ≡ moved (bookOf self) v
   pub reply : r .reply ≡ replyFor (answered (bookOf self) v)
   pub out : after ≡ outFor (answered (bookOf self) v) before
   pub unaltered : Unaltered v self (r .endpoint)
+  pub inside : Inside self → Inside (r .endpoint)
 
 -- a verdict that writes nothing, whatever the buffer
 abbrev pub Silent : Endpoint → Verdict → Answer → Type 0
@@ -100,4 +107,4 @@ pub record Answerable (m : List ℕ) (s : Places) (out : List ℕ) : Type 0 wher
 -- the output buffer is long enough, and the texts of the Request lie inside its array
 pub record Offerable (q : Request) (out : List ℕ) : Type 0 where
   pub room : leastRoom ≤ length out
-  pub inside : streamInside (q .text) (q .stream) ≡ true
+  pub inside : requestInside q ≡ true

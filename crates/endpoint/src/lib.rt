@@ -4,6 +4,11 @@ mod events;
 mod messages;
 mod verdicts;
 
+ghost use Prim.Native.Nat.{ℕ};
+ghost use mathlib.Core.Path.{_≡_};
+ghost use mathlib.Core.List.{List};
+ghost use mathlib.Core.Bool.{true};
+ghost use Rattle.media.specs.Meaning.{streamInside};
 ghost use Rattle.endpoint.specs.Step.{Did};
 ghost use Rattle.endpoint.specs.Call.{eventOf, Opens};
 use address::Address;
@@ -70,7 +75,9 @@ pub struct Opening {
 }
 
 // A stream that says nothing.
-fn blank_stream() -> Stream {
+fn blank_stream() -> Stream
+    ensures { λ r. ⌜ ((m : List ℕ) → streamInside m r ≡ true) ⌝ }
+{
     let none = Span { at: 0, len: 0 };
     Stream {
         media: none,

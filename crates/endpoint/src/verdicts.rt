@@ -1,6 +1,8 @@
 // What each verdict of the book does to an endpoint, and what it is answered.
 ghost use Rattle.book.specs.Book.{closed, opening, settling, Verdict};
-ghost use Rattle.bearer.specs.Meaning.{requestBy, bearerBy};
+ghost use mathlib.Core.Path.{_≡_};
+ghost use mathlib.Core.Bool.{true};
+ghost use Rattle.bearer.specs.Meaning.{requestBy, bearerBy, requestInside, bearerInside};
 ghost use Rattle.endpoint.specs.Step.{bookOf, Same, Silent, Says};
 use crate::Answer;
 use crate::Endpoint;
@@ -36,6 +38,7 @@ impl Endpoint {
 
     // The Request is opened.
     fn opening(self, request: Request) -> Endpoint
+        requires { ⌜ requestInside request ≡ true ⌝ }
         ensures { λ r. ⌜ Same self r (opening (requestBy request) (bookOf self)) ⌝ }
     {
         let config = self.config;
@@ -53,6 +56,7 @@ impl Endpoint {
 
     // The bearer is put in force.
     fn settling(self, bearer: Bearer) -> Endpoint
+        requires { ⌜ bearerInside bearer ≡ true ⌝ }
         ensures { λ r. ⌜ Same self r (settling (bearerBy bearer) (bookOf self)) ⌝ }
     {
         let config = self.config;
@@ -140,6 +144,7 @@ impl Endpoint {
 
     // A right Accepted was taken.
     pub(crate) fn agreed(self, bearer: Bearer) -> Answer
+        requires { ⌜ bearerInside bearer ≡ true ⌝ }
         ensures { λ r. ⌜ Silent self (Verdict.agreed (bearerBy bearer)) r ⌝ }
     {
         let state = self.state;
@@ -158,6 +163,7 @@ impl Endpoint {
 
     // A command's Request was written.
     pub(crate) fn opened(self, request: Request, written: usize) -> Answer
+        requires { ⌜ requestInside request ≡ true ⌝ }
         ensures { λ r. ⌜ Says self (λ o. Verdict.opened (requestBy request) o) written r ⌝ }
     {
         let state = self.state;
@@ -192,6 +198,7 @@ impl Endpoint {
 
     // An Accepted was written.
     pub(crate) fn accepted(self, bearer: Bearer, written: usize) -> Answer
+        requires { ⌜ bearerInside bearer ≡ true ⌝ }
         ensures { λ r. ⌜ Says self (λ o. Verdict.accepted (bearerBy bearer) o) written r ⌝ }
     {
         let state = self.state;

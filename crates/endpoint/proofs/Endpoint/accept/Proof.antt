@@ -1,7 +1,7 @@
 -- `Endpoint::accept` meets its contract: the writer's octets are the Accepted's, or it refuses by 5, and the bearer held is the one granted.
 -- Assumes nothing.
 use borrow.Author.Needs.{needs}
-use Rattle.endpoint.proofs.MessageLaws.{accept-octets, accept-refused}
+use Rattle.endpoint.proofs.MessageLaws.{accept-octets, accept-refused, kept-restated}
 use Rattle.endpoint.proofs.Endpoint.accept.Statement.{statement}
 use Rattle.endpoint.proofs.Endpoint.accept.Tie as tie
 
@@ -24,7 +24,7 @@ enum-known-put : tie.Need-enum-known-put
 enum-known-put c = search needs
 
 accepted-requires : tie.Need-accepted-requires
-accepted-requires c κs = search needs
+accepted-requires c κs = search (kept-restated, needs)
 
 enum-known-put-2 : tie.Need-enum-known-put-2
 enum-known-put-2 c = search needs

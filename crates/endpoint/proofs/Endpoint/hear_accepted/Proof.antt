@@ -1,7 +1,7 @@
 -- `Endpoint::hear_accepted` meets its contract: discarded, or taken or wrong as it is judged.
 -- Assumes nothing.
 use borrow.Author.Needs.{needs}
-use Rattle.endpoint.proofs.MessageLaws.{heard-unawaited, heard-awaited, taken-right, taken-wrong, agreed-held}
+use Rattle.endpoint.proofs.MessageLaws.{heard-unawaited, heard-awaited, taken-right, taken-wrong, agreed-held, kept-inside}
 use Rattle.endpoint.proofs.Endpoint.hear_accepted.Statement.{statement}
 use Rattle.endpoint.proofs.Endpoint.hear_accepted.Tie as tie
 
@@ -18,7 +18,7 @@ hold-requires : tie.Need-hold-requires
 hold-requires c κs = search needs
 
 agreed-requires : tie.Need-agreed-requires
-agreed-requires c κs = search needs
+agreed-requires c κs = search (kept-inside, needs)
 
 returns : tie.Need-returns
 returns c = search (heard-unawaited, heard-awaited, taken-right, taken-wrong, agreed-held, needs)

@@ -33,7 +33,8 @@ abbrev pub seen : Event → List ℕ → List ℕ → Answer → Line
 seen x before after r = record { event = record { event = x; room = length before }; reply = toldBy (r .reply) after; bearer = settled (bookOf (r .endpoint)) }
 
 -- The endpoint e, given the events one after another, each with a buffer of its own, shows the lines and becomes f. Each step is
--- what the contract of the event's method says, `Did`: so this speaks of every run of the code.
+-- what the contract of the event's method says, `Did`: so this speaks of every run of the code. Every method returns whatever it is
+-- given, so there is a run through every list of events.
 pub data Runs (e : Endpoint) : List Given → List Line → Endpoint → Type 0 where
   begun : Runs e [] [] e
   after : {gs : List Given} {ls : List Line} {f : Endpoint} → Runs e gs ls f → (x : Event) (buffer out : List ℕ) (r : Answer) → Did f x buffer out r
