@@ -1,3 +1,4 @@
 -- The worked examples, and the lists of events with what is struck of them.
 pub mod Examples
 pub mod Strikes
+pub mod Outside
