@@ -48,20 +48,28 @@ use Rattle.book.specs.Strike.{keptOf, sheetOf}
 -- the verdicts; what stands in bearers, Requests and octets does not matter here
 refusal : Verdict ℕ ℕ
 refusal = refused 0
+
 discard : Verdict ℕ ℕ
 discard = discarded
+
 command : Verdict ℕ ℕ
 command = opened 0 []
+
 agree : Verdict ℕ ℕ
 agree = agreed 0
+
 fail : Verdict ℕ ℕ
 fail = failed
+
 free : Verdict ℕ ℕ
 free = released
+
 confuse : Verdict ℕ ℕ
 confuse = confused []
+
 accept : Verdict ℕ ℕ
 accept = accepted 0 []
+
 reject : Verdict ℕ ℕ
 reject = rejected []
 

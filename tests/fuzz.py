@@ -19,7 +19,9 @@ sys.dont_write_bytecode = True
 import model  # noqa: E402
 
 # Seconds in which a program has to end, with some thousand lines to answer.
-LIMIT = 60
+LIMIT = 30
+# Seconds that are spent on making an input shorter with which a program fails.
+NARROWING = 100
 # From so many lines on, every kind of answer has to be met.
 ENOUGH = 500000
 INSPECT_BATCH = 2000
@@ -804,7 +806,7 @@ class Maker:
         if what < 0.96:
             return refield(rng, self.suiting(), b"\t")
         if what < 0.98:
-            return separate(rng, self.suiting())
+            return separate(rng, rng.choice((self.suiting, self.message))())
         if what < 0.985:
             return self.long()
         return rng.choice((b"", b"hello", b"M", b"M\t", b"M\t0", b"x1", b"t1", b"T3", b"T1\t", b"X\t", b"K\t8", b"n",
@@ -1070,8 +1072,9 @@ def with_bad(rng, head, body, bad):
 
 
 def narrow(head, lines, fails):
-    """The least part of lines, by halves, with which it still fails."""
-    while len(lines) > 1:
+    """A part of lines, found by halves, with which it still fails."""
+    until = time.time() + NARROWING
+    while len(lines) > 1 and time.time() < until:
         half = len(lines) // 2
         for part in (lines[:half], lines[half:]):
             if fails(b"\n".join(head + part) + b"\n"):

@@ -199,15 +199,17 @@ static int parse(const char *text, struct shown *s)
     su_home_t home[1] = { SU_HOME_INIT(home) };
     sdp_parser_t *p;
     sdp_session_t *d;
+    int taken;
 
     su_home_init(home);
     p = sdp_parse(home, text, (issize_t)strlen(text), sdp_f_strict);
     d = sdp_session(p);
-    if (d != NULL)
+    taken = d != NULL && d->sdp_origin != NULL && d->sdp_connection != NULL && d->sdp_time != NULL;
+    if (taken)
         show_all(s, d);
     sdp_parser_free(p);
     su_home_deinit(home);
-    return d != NULL;
+    return taken;
 }
 #endif
 

@@ -11,6 +11,7 @@ given, as model.py reads it.
 With --messages nothing is dissected: the messages are printed, one to a line, as they were written and as they were
 to be written, in hex, for sdp.sh. Ends with status 1 where something differs."""
 import collections
+import contextlib
 import glob
 import os
 import random
@@ -26,23 +27,40 @@ import model
 HERE = os.path.dirname(os.path.abspath(__file__))
 VECTORS = os.path.join(HERE, "vectors")
 
-# What is not compared since the dissector is at fault or says nothing, and how far it is compared all the same.
+# What is not compared, and why it is the dissector that is wrong or silent. Q.765.5 gives every element, inner ones
+# too, a length of one octet or two that counts compatibility and contents: where it ends never depends on its value.
+# The octets of all data are compared in any case; here it is a matter of what the dissector's fields show.
 FAULTS = {
+    # The figure of a diagnostic has the most significant octet of the index first.
     "index": "indices of diagnostics as numbers: shown least significant octet first, so their octets are compared",
+    # Numbers have their most significant octet first; document 01 says so of this one.
     "duration": "durations as numbers: shown least significant octet first, so their octets are compared",
+    # The same; the card carries octets.
     "local": "local ids as numbers: shown least significant octet first, so their octets are compared",
+    # The local id is a binary number without a length of its own: it takes the rest of the element.
     "local length": "local ids of other than four octets, past the fourth octet: it takes four, whatever the length",
-    "whole": "last octets of elements with a two-octet length: it leaves that out of the whole, but goes on behind it",
+    # The length counts neither identifier nor length octets, which here are three together; it adds two.
+    "whole": "ends of elements with a two-octet length: it shows the whole one octet short, but goes on behind it",
+    # The field has up to four octets.
     "backbone": "backbone connections of 1 to 3 octets as numbers: it reads four, so the octets are compared",
+    # The length counts compatibility and organisation; the rest is two octets less, and it takes one less.
     "organisation": "codecs of organisation 0 as numbers: it takes an octet too many, so their octets are compared",
+    # Document 01 has any number of configuration octets carried; the length says where the next element is.
     "configuration": "codecs behind the configuration octets that it knows: it goes on there, whatever the length",
+    # A codec's length is like any other's; it has a function of its own for codecs, which counts on one octet.
     "codec length": "places of identifier and length of codecs with a two-octet length: it looks an octet behind them",
     "inner length": "codec lists from a codec with a two-octet length on: it takes the second octet for the length",
+    # A report has as many diagnostics as its length has room for.
     "diagnostics": "diagnostics of reports with over 255, past their number modulo 256: it counts in one octet",
+    # The card takes 1 to 20 octets, and carries them as they are.
     "inside": "what follows addresses of AFI 35 or 45 that are no whole ICP or E.164 address: it gives up inside",
+    # Document 01 asks for one octet; nothing says that there are two indicators in it.
     "control": "what follows control information of one octet: it takes the next element's first for the second",
+    # It is not the card's to judge what it carries here.
     "text": "control information for IPBCP, past its indicators, that is no message as the card writes them",
+    # RFC 4566 knows no quotation: a line ends in CRLF, whatever is in it.
     "quote": "lines behind a line with a lone quotation mark: it looks for the next mark before a line's end",
+    # The texts are the peer's or the configuration's, which the card carries; it complains of them by RFC 4566.
     "attribute": "the inside of rtpmap and fmtp lines that say no codec or format: the line's octets are compared",
 }
 
@@ -67,6 +85,7 @@ class Report:
         self.word = word
         self.agree = 0
         self.differ = 0
+        self.segmented = 0
         self.notes = collections.Counter()
 
     def compare(self, what, want, got):
@@ -86,6 +105,8 @@ class Report:
         """Prints the count, and says whether all agree."""
         total = self.agree + self.differ
         print("%s: %d %s, %d agree" % (self.kind, total, self.word, self.agree))
+        if self.segmented:
+            print("  in segments: %d (over the 250 octets of one APM message)" % self.segmented)
         for name, count in sorted((+self.notes).items()):
             print("  skipped: %d (%s)" % (count, FAULTS[name]))
         return self.differ == 0 and total > 0
@@ -108,12 +129,13 @@ def write_capture(path, name, pdus):
 
 
 def dissect(name, pdus):
-    """What tshark shows of each PDU, as the tree of its PDML."""
+    """What tshark shows of each PDU, as the tree of its PDML. Where these are fewer than the PDUs the program ends
+    behind the last."""
     with tempfile.TemporaryDirectory() as work:
         path = os.path.join(work, "capture")
         write_capture(path, name, pdus)
-        run = subprocess.Popen(["tshark", "-n", "-r", path, "-T", "pdml"], stdout=subprocess.PIPE,
-                               stderr=subprocess.DEVNULL)
+        command = ["tshark", "-n", "-o", "isup.defragment_apm:TRUE", "-r", path, "-T", "pdml"]
+        run = subprocess.Popen(command, stdout=subprocess.PIPE, stderr=subprocess.DEVNULL)
         count = 0
         for _, node in ET.iterparse(run.stdout):
             if node.tag == "packet":
@@ -215,6 +237,7 @@ class Layout:
         self.complaints = set()
         self.lost = False  # it goes on from a wrong place
         self.need = 0  # octets that it reads past the end
+        self.data = b""
 
     def show(self, name, octets, number=None, size=None):
         self.items.append(Item(name, self.at, len(octets) if size is None else size, octets, number))
@@ -243,7 +266,6 @@ class Layout:
         whole = model.write_element(e.identifier, e.compatibility, e.contents)
         end, size = self.at + len(whole), len(whole)
         if len(e.contents) > 126:
-            # The length counts neither the identifier nor its own octets, here three together.
             self.notes.append("whole")
             size -= 1
         # In front of an element it shows bit 8 of the first length octet.
@@ -275,7 +297,6 @@ class Layout:
         if len(octets) == 4:
             self.take("bat_ase.bncid", octets, int.from_bytes(octets, "big"))
             return
-        # Up to four octets are allowed, and the length says how many there are.
         self.notes.append("backbone")
         self.take("bat_ase.bncid", octets)
         self.need = 4 - len(octets)
@@ -283,15 +304,13 @@ class Layout:
     def value_3(self, e):
         octets = octets_of(e.value)
         self.take("bat_ase.biwfa", octets)
-        # It looks inside these two formats for 20 octets, and for decimal digits behind 45. The card takes 1 to 20
-        # octets and carries them as they are.
+        # It looks inside these two formats for 20 octets, and for decimal digits behind 45.
         digits = octets[1:9].hex().isdecimal()
         if octets[0] in (0x35, 0x45) and (len(octets) < 20 or octets[0] == 0x45 and not digits):
             self.lose("inside")
 
     def value_4(self, e):
         for codec in e.inner:
-            # A codec in a list is an element like any other, and its length has one octet or two.
             if len(codec.contents) > 126:
                 self.lose("inner length")
             if self.lost:
@@ -305,7 +324,6 @@ class Layout:
         getattr(self, "codec_%s" % organisation)(octets_of(rest))
 
     def codec_0(self, octets):
-        # The element's length counts the compatibility octet; what is left behind the organisation is two less.
         self.notes.append("organisation")
         self.show("isup.unknown_organisation_identifier", octets, size=len(octets) + 1)
         self.at += len(octets)
@@ -319,7 +337,6 @@ class Layout:
         known = 1 if 8 <= octets[0] <= 12 else 0
         if octets[1:1 + known]:
             self.take_number("isup.configuration_data", octets[1])
-        # Where the next element begins is said by the length, whatever the type.
         if len(octets) > 1 + known:
             self.lose("configuration")
 
@@ -343,7 +360,6 @@ class Layout:
                 return
             identifier, index = diagnostic.split(",")
             self.take_number("bat_ase.Comp_Report_ident", int(identifier))
-            # Two octets, the most significant first.
             self.take("bat_ase.Comp_Report_diagnostic", int(index).to_bytes(2, "big"))
             self.notes.append("index")
 
@@ -351,7 +367,6 @@ class Layout:
         octets = octets_of(e.value)
         self.take_bits(octets[0], VERSION_BITS)
         if len(octets) == 1:
-            # Nothing says that a bearer control protocol has two octets at least.
             self.need = 1
             self.lose("control")
             return
@@ -378,7 +393,6 @@ class Layout:
         self.take_number("isup.network_id_length_indicator", len(network))
         if network:
             self.take("isup.network_id", network)
-        # A binary number that takes the rest of the element; no length of its own is given.
         self.notes.append("local")
         self.show("bat_ase.Local_BCU_ID", local[:4], size=4)
         self.at += 4
@@ -398,7 +412,6 @@ class Layout:
             self.take_number("bat_ase.bearer_redir_ind", octet)
 
     def value_15(self, e):
-        # Two octets, the most significant first.
         self.take("bat_ase.duration", int(e.value).to_bytes(2, "big"))
         self.notes.append("duration")
 
@@ -411,8 +424,8 @@ def encode_length(rng, length):
 
 
 def encode(rng, identifier, contents):
-    """An element to be read: any form of its length, one compatibility octet or more."""
-    more = rng.choice((0, 0, 0, 1, 2))
+    """An element to be read: any form of its length, one compatibility octet or more where there is room."""
+    more = rng.choice((0, 0, 0, 1, 2)) if len(contents) < 2000 else 0
     compat = bytes(rng.randrange(128) for _ in range(more)) + bytes([0x80 | rng.randrange(128)])
     body = compat + contents
     return bytes([identifier]) + encode_length(rng, len(body)) + body
@@ -450,7 +463,7 @@ def values(rng):
         out += [(3, bytes([afi]) + rng.randbytes(n - 1)) for afi in (0x35, 0x45, 0x47, 0x49, rng.randrange(256))]
         out.append((3, bytes([0x45] + [rng.randrange(10) * 17 for _ in range(n - 1)])))
     out += [(5, c) for c in codecs(rng)] + lists(rng)
-    out += [(6, rng.randbytes(1 + 3 * n)) for n in (0, 1, 2, 3, 5, 41, 42, 43, 84, 681)]
+    out += [(6, rng.randbytes(1 + 3 * n)) for n in (0, 1, 2, 3, 5, 41, 42, 43, 84, 255, 256, 300, 681)]
     out += [(9, bytes([n])) for n in (0, 1, 2, 3, 254, 255)]
     for n in (1, 2, 3, 10, 124, 125, 126, 127, 128, 129, 245, 246, 247, 500, 1000, 2043, 2044):
         out += [(8, rng.randbytes(n)), (8, (b" !" + rng.randbytes(n))[:n])]
@@ -589,6 +602,7 @@ def compare_elements(directory):
     pdus, wanted = [], {}
     for n, (data, elements) in enumerate(strings):
         parts = segments(data, n)
+        (alone if n < len(written) else together).segmented += len(parts) > 1
         pdus += parts
         wanted[len(pdus) - 1] = (n, lay(elements, PDU + 13 if len(parts) == 1 else 0))
     for i, packet in enumerate(dissect("bicc", pdus)):
@@ -650,7 +664,7 @@ def compare_replies(directory):
         else:
             other.compare("tunnel " + line, want, answer.split(" ")[0])
     pdus = [octets for _, _, octets in written]
-    for (line, want, octets), packet in zip(written, dissect("bctp", pdus)):
+    for packet, (line, want, octets) in zip(dissect("bctp", pdus), written):
         proto = next(p for p in packet.iter("proto") if p.get("name") == "bctp")
         got = [item_of(n) for n in proto.iter("field")] + sorted(complaints(packet)) + [len(octets)]
         replies.compare("tunnel " + line, bits_of(want) + [2], got)
@@ -761,7 +775,6 @@ def compare_message(report, what, packet, m, at, octets):
         else:
             wanted.append(expected_line(line, at))
         at += len(line) + 2
-        # RFC 4566 knows no quotation: a line ends in CRLF, whatever is in it.
         if not quoted and line.count(b'"') % 2:
             quoted = True
             wanted[-1] = wanted[-1][0]._replace(size=None), None
@@ -798,11 +811,25 @@ def messages(rng):
     return out
 
 
+def spelled(rng, address):
+    """An IPv6 address in another form: zeros in front, either case, `::` for any run of zeros or for none."""
+    groups = model.ip6(address)
+    words = [rng.choice(("%x", "%X", "%04x", "%04X")) % g for g in groups]
+    runs = [(i, j) for i in range(8) for j in range(i + 1, 9) if not any(groups[i:j])]
+    if not runs or rng.random() < 0.3:
+        return ":".join(words).encode()
+    start, end = rng.choice(runs)
+    return (":".join(words[:start]) + "::" + ":".join(words[end:])).encode()
+
+
 def packet_inputs():
     """Messages for PACKET: the vectors, and those that are made up here."""
     with open(os.path.join(VECTORS, "message.in")) as f:
         inputs = [octets_of(l) for l in f.read().split("\n")[:-1]]
-    return inputs + [text(m) for m in messages(random.Random(2))]
+    rng = random.Random(2)
+    for m in messages(rng):
+        inputs.append(text(m if m.family == b"IP4" else m._replace(address=spelled(rng, m.address))))
+    return inputs
 
 
 def written_packets(program, report):
@@ -860,8 +887,10 @@ def trace_events(path, program):
     out = subprocess.run([program], input=data, capture_output=True).stdout.decode().split("\n")[:-1]
     if out == ["refused-12"]:
         return
-    lines = data.split(b"\n")
+    lines = data.removesuffix(b"\n").split(b"\n")
     config = trace_configuration(lines)
+    if len(out) - 1 != len(lines) - config[4]:
+        sys.exit("%s: %d answers to %d events" % (path, len(out) - 1, len(lines) - config[4]))
     for printed in out[1:]:
         number, kind, _, notice, _, count, octets, _ = printed.split(" ")
         event = lines[config[4] + int(number) - 1].split(b"\t")
@@ -889,7 +918,7 @@ def compare_traces(directory):
     none = Report("traces, nothing written", "events")
     written = written_messages(os.path.join(directory, "tracedetail"), none)
     bare, tunnelled = Report("messages, bare"), Report("messages, tunnelled")
-    for (what, m, octets), packet in zip(written, dissect("sdp", [o for _, _, o in written])):
+    for packet, (what, m, octets) in zip(dissect("sdp", [o for _, _, o in written]), written):
         compare_message(bare, what, packet, m, PDU, octets)
     compare_packets(tunnelled, [(what, m, b"  " + octets) for what, m, octets in written])
     return [none, bare, tunnelled]
@@ -897,7 +926,7 @@ def compare_traces(directory):
 
 def compare_packets(report, written):
     """Tunnel packets with a message: the indicators, and the message behind them."""
-    for (what, m, octets), packet in zip(written, dissect("bctp", [o for _, _, o in written])):
+    for packet, (what, m, octets) in zip(dissect("bctp", [o for _, _, o in written]), written):
         proto = next(p for p in packet.iter("proto") if p.get("name") == "bctp")
         got = [item_of(n) for n in proto.iter("field")]
         if got != bits_of((0, 0, 0, 32)):
@@ -915,9 +944,10 @@ def compare_rewritten(program):
 def print_messages(directory, program):
     """The messages as written and as they were to be, for sdp.sh."""
     report = Report("messages")
-    written = written_messages(os.path.join(directory, "tracedetail"), report)
-    if program:
-        written += [(what, m, octets[2:]) for what, m, octets in written_packets(program, report)]
+    with contextlib.redirect_stdout(sys.stderr):
+        written = written_messages(os.path.join(directory, "tracedetail"), report)
+        if program:
+            written += [(what, m, octets[2:]) for what, m, octets in written_packets(program, report)]
     for _, m, octets in written:
         print(octets.hex().upper(), text(m).hex().upper())
     return report.differ == 0

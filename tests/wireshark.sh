@@ -14,6 +14,9 @@ if [ "${1:-}" = --messages ]; then
 elif ! command -v tshark > /dev/null; then
     echo "no tshark (apt-get install tshark)" >&2
     exit 2
+else
+    # The faults of dissectors that wireshark.py names are those of TShark 4.0.17.
+    tshark --version 2> /dev/null | sed -n 1p
 fi
 . "$root/tests/program.sh" tracedetail "${1:+$1/tracedetail}"
 . "$root/tests/program.sh" inspect "${1:+$1/inspect}"
