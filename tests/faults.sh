@@ -60,7 +60,7 @@ end_of() {
         sleep 0.05
         turns=$((turns - 1))
     done
-    kill -KILL "$1" 2> /dev/null
+    if [ $turns = 0 ]; then kill -KILL "$1"; fi
     wait "$1"
 }
 

@@ -2,13 +2,24 @@
 ghost use mathlib.Core.Path.{_≡_};
 ghost use Prim.Native.Nat.{_-_, _≤_};
 ghost use lib.ListN.{length};
+use libc::STDERR_FILENO;
 use libc::STDOUT_FILENO;
 
+// What a program has to print. No contract can say what went through a descriptor; the tests do.
 pub struct Output {
     // How many octets wait.
     pub at: usize,
     // Whether all that was written has been taken.
     pub taken: bool,
+}
+
+// Writes octets to standard output; where they are not taken, says so on standard error.
+fn write(octets: &[u8]) -> bool {
+    if io::write_all(STDOUT_FILENO, octets) {
+        return true;
+    }
+    io::write_all(STDERR_FILENO, b"the output was not taken\n");
+    false
 }
 
 // Writes what waits.
@@ -19,7 +30,7 @@ pub fn flush(out: &[u8], output: Output) -> Output
     if at <= out.len() {
         return Output {
             at: 0,
-            taken: io::write_all(STDOUT_FILENO, &out[0..at]),
+            taken: write(&out[0..at]),
         };
     }
     Output {

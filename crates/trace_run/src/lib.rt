@@ -1,5 +1,6 @@
 // A run of a trace over one descriptor: lines in, lines out, to the end of the input.
 ghost use Rattle.trace_run.specs.Run.{SameLengths};
+use libc::STDERR_FILENO;
 use line_input::gather;
 use line_output::Output;
 use line_output::flush;
@@ -43,8 +44,39 @@ fn goes_on(phase: Phase) -> bool {
     }
 }
 
-// The lines that end in part, and the beginning of the next. A line that is too long is not whole. (`next` is always past i; the
-// `if` shows that the loop ends.)
+// Answers the line that was gathered, and begins the next. A line that no LF ended, or that is too long, is not whole.
+fn step_line(
+    state: State,
+    ended: bool,
+    detailed: bool,
+    line: &[u8],
+    room: &mut [u8],
+    out: &mut [u8],
+) -> State {
+    let session = state.session;
+    let whole = ended && !state.over;
+    let mut output = state.output;
+    let stepped = session.step(
+        detailed,
+        up_to(line, state.len),
+        whole,
+        room,
+        out,
+        output.at,
+    );
+    let left = stepped.session;
+    let phase = left.phase;
+    output.at = stepped.at;
+    State {
+        session: left,
+        len: 0,
+        over: false,
+        output: make_room(out, output, LINE),
+        going: goes_on(phase),
+    }
+}
+
+// The lines that end in part, and the beginning of the next. (`next` is always past i; the `if` shows that the loop ends.)
 fn feed(
     state: State,
     detailed: bool,
@@ -53,39 +85,29 @@ fn feed(
     room: &mut [u8],
     out: &mut [u8],
 ) -> State {
-    let mut session = state.session;
-    let mut len = state.len;
-    let mut over = state.over;
-    let mut output = state.output;
-    let mut going = true;
+    let mut st = state;
     let mut i = 0;
-    while i < part.len() && going && output.taken {
-        let g = gather(part, i, line, len, over);
+    while i < part.len() && st.going && st.output.taken {
+        let g = gather(part, i, line, st.len, st.over);
         let next = g.next;
         if next <= i {
             break;
         }
         i = next;
-        len = g.len;
-        over = g.over;
+        st.len = g.len;
+        st.over = g.over;
         if g.ended {
-            let stepped = session.step(detailed, up_to(line, len), !over, room, out, output.at);
-            session = stepped.session;
-            output.at = stepped.at;
-            output = make_room(out, output, LINE);
-            let phase = session.phase;
-            going = goes_on(phase);
-            len = 0;
-            over = false;
+            st = step_line(st, true, detailed, line, room, out);
             continue;
         }
     }
-    State {
-        session,
-        len,
-        over,
-        output,
-        going,
+    st
+}
+
+// The input goes on no more; where it can't be read, standard error is told.
+fn tell_end(got: isize) {
+    if got < 0 {
+        io::write_all(STDERR_FILENO, b"the input can't be read\n");
     }
 }
 
@@ -102,6 +124,7 @@ fn turn(
     let mut st = state;
     let got = libc::read(fd, part);
     if got <= 0 {
+        tell_end(got);
         st.going = false;
         return st;
     }
@@ -115,22 +138,10 @@ fn turn(
 
 // Answers a line that no LF ended, if there is one.
 fn end_line(state: State, detailed: bool, line: &[u8], room: &mut [u8], out: &mut [u8]) -> State {
-    let len = state.len;
-    if len == 0 {
+    if state.len == 0 {
         return state;
     }
-    let session = state.session;
-    let mut output = state.output;
-    let stepped = session.step(detailed, up_to(line, len), false, room, out, output.at);
-    let left = stepped.session;
-    output.at = stepped.at;
-    State {
-        session: left,
-        len: 0,
-        over: false,
-        output,
-        going: false,
-    }
+    step_line(state, false, detailed, line, room, out)
 }
 
 // Answers what is left at the end of the input: such a line, and a configuration that no event followed.

@@ -8,11 +8,11 @@ use Rattle.trace_run.proofs.feed.Statement.{statement}
 use Rattle.trace_run.proofs.feed.Tie as tie
 
 abbrev Inv-loop : tie.InvT-loop
-Inv-loop detailed part line₀ room₀ out₀ session₀ len₀ over₀ output₀ going₀ i₀ line room out session len over output going i =
+Inv-loop detailed part line₀ room₀ out₀ st₀ i₀ line room out st i =
     (length line ≡ length line₀) × (length room ≡ length room₀) × (length out ≡ length out₀)
 
 abbrev μ-loop : tie.MeasureT-loop
-μ-loop detailed part line₀ room₀ out₀ session₀ len₀ over₀ output₀ going₀ i₀ line room out session len over output going i = length part - i
+μ-loop detailed part line₀ room₀ out₀ st₀ i₀ line room out st i = length part - i
 
 loop-holds : tie.Need-loop-holds Inv-loop μ-loop
 loop-holds c = search needs
@@ -20,26 +20,14 @@ loop-holds c = search needs
 gather-requires : tie.Need-gather-requires Inv-loop μ-loop
 gather-requires c κs = search needs
 
-up-to-requires : tie.Need-up-to-requires Inv-loop μ-loop
-up-to-requires c κs = search needs
-
-step-requires : tie.Need-step-requires Inv-loop μ-loop
-step-requires c κs = search needs
-
-make-room-requires : tie.Need-make-room-requires Inv-loop μ-loop
-make-room-requires c κs = search needs
-
-goes-on-requires : tie.Need-goes-on-requires Inv-loop μ-loop
-goes-on-requires c κs = search needs
+step-line-requires : tie.Need-step-line-requires Inv-loop μ-loop
+step-line-requires c κs = search needs
 
 loop-less : tie.Need-loop-less Inv-loop μ-loop
-loop-less c =
-    let ahead = c .before .before .before .before .before .before .before .before .before .before .before .before .before .before .if3 .left in
-    let inside = c .before .before .before .before .before .before .before .before .before .before .before .before .before .before .before .before .before .before .before .before .before .loop-test .taken in
-    search needs
+loop-less c = search needs
 
 loop-again : tie.Need-loop-again Inv-loop μ-loop
-loop-again c = let p = c .before .before .before .before .before .before .before .before .before .before .before .before .before .before .before .before in search needs
+loop-again c = let p = c .before .before .before .before .before .before .before .before in search needs
 
 loop-less-2 : tie.Need-loop-less-2 Inv-loop μ-loop
 loop-less-2 c = search needs
@@ -103,10 +91,7 @@ feed-spec =
     μ-loop
     loop-holds
     gather-requires
-    up-to-requires
-    step-requires
-    make-room-requires
-    goes-on-requires
+    step-line-requires
     loop-less
     loop-again
     loop-less-2
