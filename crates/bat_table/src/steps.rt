@@ -10,7 +10,7 @@ use bat::Counted;
 use bat::Framed;
 
 // An answer as one number.
-pub fn code(c: Counted) -> usize
+pub(crate) fn code(c: Counted) -> usize
     ensures { λ r. ⌜ r ≡ codeOf c ⌝ }
 {
     match c {
@@ -20,7 +20,7 @@ pub fn code(c: Counted) -> usize
 }
 
 // What is to be done with the data, where a table of so many entries is lent.
-pub fn plan_for(data: &[u8], entries: usize) -> Plan
+pub(crate) fn plan_for(data: &[u8], entries: usize) -> Plan
     ensures { λ r. ⌜ r ≡ planFor entries (now («data» .entry)) ⌝ }
 {
     let answer = bat::framing::count(data, entries);
@@ -38,7 +38,7 @@ pub fn plan_for(data: &[u8], entries: usize) -> Plan
 
 // The entry of the element at a place of the data, and the place behind it. Where no element can be
 // framed, an entry of no octets, and the same place.
-pub fn step_at(data: &[u8], at: usize) -> Step
+pub(crate) fn step_at(data: &[u8], at: usize) -> Step
     ensures { λ r. ⌜ r ≡ stepAt (now («data» .entry)) at ⌝ }
 {
     let x = bat::framing::first_element(octets::spans::after(data, at));

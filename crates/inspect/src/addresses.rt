@@ -31,7 +31,7 @@ fn push_text(family: u16, text: &[u8], out: &mut [u8], at: usize) -> usize {
 }
 
 // Appends the answer to the line.
-pub fn push_answer(line: &[u8], data: &mut [u8], out: &mut [u8], at: usize) -> usize {
+pub(crate) fn push_answer(line: &[u8], data: &mut [u8], out: &mut [u8], at: usize) -> usize {
     if parts::separators(line, 32) != 2 {
         return print::bad_line(out, at);
     }

@@ -10,7 +10,7 @@ use octets::words;
 
 // Appends what the line's mode answers. A mode has data for the octets that the line's digits stand
 // for, and room for what it writes.
-pub fn push_answer(
+pub(crate) fn push_answer(
     line: &[u8],
     data: &mut [u8],
     room: &mut [u8],

@@ -161,7 +161,7 @@ fn push_data(data: &[u8], entries: u16, pass: bool, out: &mut [u8], at: usize) -
 }
 
 // Appends the answer to the line.
-pub fn push_answer(line: &[u8], data: &mut [u8], out: &mut [u8], at: usize) -> usize {
+pub(crate) fn push_answer(line: &[u8], data: &mut [u8], out: &mut [u8], at: usize) -> usize {
     if parts::separators(line, 32) != 3 {
         return print::bad_line(out, at);
     }

@@ -6,18 +6,18 @@ use octets::parts;
 use octets::words;
 
 // How many octets the digits of a field stand for, or that they are no digits.
-pub enum Unpacked {
+pub(crate) enum Unpacked {
     Octets(usize),
     Wrong,
 }
 
 // The number in the k-th field. One above 65535 counts as 65535: no table, buffer or octet needs more.
-pub fn number(line: &[u8], k: usize) -> Number {
+pub(crate) fn number(line: &[u8], k: usize) -> Number {
     read_length(parts::part(line, 32, k))
 }
 
 // Puts the octets of the k-th field into data: `-` stands for none, else it has digits.
-pub fn unpack(line: &[u8], k: usize, data: &mut [u8]) -> Unpacked {
+pub(crate) fn unpack(line: &[u8], k: usize, data: &mut [u8]) -> Unpacked {
     let field = parts::part(line, 32, k);
     if words::equals(b"-", field) {
         return Unpacked::Octets(0);

@@ -10,6 +10,7 @@ mod tunnel;
 mod values;
 mod walk;
 
+use libc::STDERR_FILENO;
 use libc::STDIN_FILENO;
 use line_output::Output;
 use line_output::flush;
@@ -18,7 +19,7 @@ use line_output::make_room;
 // Room that is kept for a line of output, so that none is cut. The longest is that of 2,048 octets
 // which are 682 unknown elements: 35 octets for each and 6 more where its diagnostic is listed, under
 // 28,000 in all.
-const LINE: usize = 40960;
+const LINE_ROOM: usize = 40960;
 
 // What is kept from octet to octet.
 struct State {
@@ -86,10 +87,17 @@ fn feed(
         st.over = g.over;
         if g.ended {
             st = step(line, data, room, out, st);
-            st.output = make_room(out, st.output, LINE);
+            st.output = make_room(out, st.output, LINE_ROOM);
         }
     }
     st
+}
+
+// The input goes on no more; where it can't be read, standard error is told.
+fn tell_end(got: isize) {
+    if got < 0 {
+        io::write_all(STDERR_FILENO, b"the input can't be read\n");
+    }
 }
 
 // Reads once and answers what came.
@@ -104,6 +112,7 @@ fn turn(
     let mut st = state;
     let got = libc::read(STDIN_FILENO, part);
     if got <= 0 {
+        tell_end(got);
         st.going = false;
         return st;
     }

@@ -102,7 +102,7 @@ fn push_message(m: &[u8], out: &mut [u8], at: usize) -> usize {
 }
 
 // Appends the answer to the line.
-pub fn push_answer(line: &[u8], data: &mut [u8], out: &mut [u8], at: usize) -> usize {
+pub(crate) fn push_answer(line: &[u8], data: &mut [u8], out: &mut [u8], at: usize) -> usize {
     if parts::separators(line, 32) != 1 {
         return print::bad_line(out, at);
     }

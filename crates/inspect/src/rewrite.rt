@@ -84,7 +84,7 @@ fn push_lent(
 }
 
 // Appends the answer to the line.
-pub fn push_answer(
+pub(crate) fn push_answer(
     line: &[u8],
     data: &mut [u8],
     room: &mut [u8],

@@ -30,7 +30,7 @@ fn push_lent(packet: &[u8], buffer: u16, room: &mut [u8], out: &mut [u8], at: us
 }
 
 // Appends the answer to the line.
-pub fn push_answer(
+pub(crate) fn push_answer(
     line: &[u8],
     data: &mut [u8],
     room: &mut [u8],

@@ -121,7 +121,7 @@ fn push_signal(kind: Typed, duration: Timed, out: &mut [u8], at: usize) -> usize
 }
 
 // Appends the value v of an element with the contents s.
-pub fn push_value(s: &[u8], v: Value, out: &mut [u8], at: usize) -> usize {
+pub(crate) fn push_value(s: &[u8], v: Value, out: &mut [u8], at: usize) -> usize {
     match v {
         Value::Action(n) => push_number(b"action=", n as u64, out, at),
         Value::Backbone(sp) => push_octets(b"backbone=", s, sp, out, at),

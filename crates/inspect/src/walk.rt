@@ -2,7 +2,7 @@
 use bat::Frame;
 
 // Where the element f at the place i of s ends; i where it does not end in s.
-pub fn behind(s: &[u8], i: usize, f: Frame) -> usize {
+pub(crate) fn behind(s: &[u8], i: usize, f: Frame) -> usize {
     let n = bat::framing::whole_length(f);
     if s.len() < i {
         return i;

@@ -31,13 +31,14 @@ use octets::spans::after;
 use octets::spans::up_to;
 use trace_read::Asked;
 use trace_read::events::read_event;
+use trace_read::MOST_LINE;
 use trace_read::lend::lend;
 use trace_write::detail::push_detail;
 use trace_write::lines::push_bad;
 use trace_write::lines::push_event;
 
 // Room for the octets of the longest message that a line can hold.
-const MOST_MESSAGE: usize = 600;
+const MOST_MESSAGE: usize = MOST_LINE / 2;
 
 // How many octets of a buffer of n are lent where `asked` are asked for.
 fn lent_of(n: usize, asked: usize) -> usize

@@ -9,9 +9,12 @@ use octets::spans::up_to;
 use trace::Phase;
 use trace::Session;
 
+// The most octets of a line of a detailed trace, without its LF: the length of a buffer may stand before the event.
+pub const MOST_DETAIL: usize = 4096;
+
 // Room that is kept for what one line prints, so that nothing is cut. The line of an event has fewer than 80 octets; in a detailed
 // trace at most 894 digits of a message stand behind it, and under 700 octets of a bearer.
-const LINE: usize = 8192;
+const LINE_ROOM: usize = 8192;
 
 // What is kept from octet to octet.
 struct State {
@@ -71,7 +74,7 @@ fn step_line(
         session: left,
         len: 0,
         over: false,
-        output: make_room(out, output, LINE),
+        output: make_room(out, output, LINE_ROOM),
         going: goes_on(phase),
     }
 }

@@ -1,10 +1,11 @@
 // The trace program with the octets written and the bearer in force beside each line, and with output buffers of any length.
 use libc::STDIN_FILENO;
+use trace_run::MOST_DETAIL;
 
 // A line has at most 1,200 octets with its LF, and the length of a buffer before them.
 fn main() {
     let mut part = io::large_buffer();
-    let mut line = [0u8; 4096];
+    let mut line = [0u8; MOST_DETAIL];
     let mut room = io::large_buffer();
     let mut out = io::large_buffer();
     trace_run::run(
