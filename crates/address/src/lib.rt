@@ -18,7 +18,7 @@ pub enum Parsed {
     Unreadable,
 }
 
-// Powers of two that part an address: its first number or octet, and its groups, from what stands behind them.
+// Dividing by these powers of two takes out the first number or octet of an address, or a group.
 const POWER_24: u32 = 1 << 24;
 
 const POWER_32: u64 = 1 << 32;

@@ -1,4 +1,5 @@
 -- The laws of elements.
+-- Assumes nothing.
 pub mod WalkLaws
 pub mod DataLaws
 pub mod FrameLaws

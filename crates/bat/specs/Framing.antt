@@ -13,7 +13,7 @@ use lib.Dec.{leb, ltb, eqb}
 abbrev pub bit8 : ℕ → Bool
 bit8 b = leb 128 b
 
--- the octet of s behind k others; 0 where there is none
+-- octet k of s, from 0; 0 where there is none
 abbrev pub octet : ℕ → List ℕ → ℕ
 octet k s = getD s k 0
 
@@ -84,10 +84,12 @@ countedBy i size s t =
 unfoldable pub elementBy : ℕ → List ℕ → ℕ → List ℕ → Front
 elementBy i size n t = cond (eqb n 0) unframed (cond (ltb (length t) n) unframed (countedBy i size (take n t) (drop n t)))
 
+-- the element with identifier i, by the length behind it
 unfoldable pub sizedBy : ℕ → Length → Front
 sizedBy i (sized size n t) = elementBy i size n t
 sizedBy i unsized = unframed
 
+-- what stands at the front of octets: an identifier, then a length and what it counts
 unfoldable pub front : List ℕ → Front
 front [] = ended
 front (i ∷ s) = sizedBy i (lengthOf s)

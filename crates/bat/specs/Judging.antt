@@ -19,7 +19,9 @@ indexBy n (Inner d) = n + d
 
 -- ---- the outcome
 -- An outcome is a number: 0 has the element passed on, 1 the element discarded, 2 the data discarded, 3 the call
--- released. The first choice is to pass the element on, and that can't be done:
+-- released.
+
+-- passing on is the first choice, and is not possible
 abbrev pub noPass : Bool → ℕ → Bool
 noPass pass c = eqb (c % 4) 0 && not pass
 

@@ -40,6 +40,7 @@ pub data Lasting : Type 0 where
   -- compatibility, duration
   lasting : ℕ → ℕ → Lasting
 
+-- What an element says, by its identifier.
 pub data Value : Type 0 where
   -- 1
   action : ℕ → Value

@@ -10,6 +10,7 @@ use crate::MOST_OCTETS;
 use crate::Size;
 use octets::Span;
 
+// x in sixteen bits.
 fn wide(x: u8) -> u16
     ensures { λ r. ⌜ r ≡ x ⌝ }
 {
@@ -51,7 +52,7 @@ pub fn count_unmarked(s: &[u8]) -> usize
     i
 }
 
-// The octet of s behind k others, 0 where there is none.
+// Octet k of s, from 0; 0 where there is none.
 pub fn octet_at(s: &[u8], k: usize) -> u8
     ensures { λ r. ⌜ r ≡ octet k (now (s .entry)) ⌝ }
 {

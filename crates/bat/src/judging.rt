@@ -47,7 +47,7 @@ pub fn outcome(c: u8, pass: bool) -> Outcome
     second_choice(c / 16)
 }
 
-// Whether it asks notice.
+// Whether an element with the compatibility octet c asks notice.
 pub fn notice(c: u8, pass: bool) -> bool
     ensures { λ r. ⌜ r ≡ noticeOf pass c ⌝ }
 {

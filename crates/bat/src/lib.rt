@@ -1,4 +1,4 @@
-// Q.765.5 elements: what the functions of this crate and of those above it take and answer, as
+// Elements of Q.765.5, the bearer association transport (BAT): what the functions of this crate and of those above it take and answer, as
 // numbers, enums and spans by value. A span is a place in a slice that stands beside it: the octets
 // lent, or an element's contents.
 pub mod framing;
@@ -97,7 +97,7 @@ pub enum Outcome {
     Release,
 }
 
-// An element, and the octet in it, that a compatibility report names.
+// What a compatibility report says of an element: its identifier, and the index of the fault.
 pub struct Diagnostic {
     pub identifier: u8,
     pub index: usize,

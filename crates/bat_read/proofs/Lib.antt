@@ -1,4 +1,5 @@
 -- The laws of reading and judging elements.
+-- Assumes nothing.
 pub mod SimpleLaws
 pub mod ConstructorLaws
 pub mod ReadLaws

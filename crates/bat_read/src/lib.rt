@@ -201,7 +201,8 @@ fn lists(v: Verdict) -> Own
 }
 
 // The first diagnostic that is listed of the data's elements from a place on, where passing on is possible
-// or not. Of data that can't be framed it is asked in vain: that is refused, and nothing of it is listed.
+// or not. It goes as far as the data can be framed, and is for data that `judge_data` has taken: nothing of
+// refused data is listed.
 pub fn next_listed(data: &[u8], from: usize, pass: bool) -> Listed
     ensures { λ r. ⌜ listingsIn pass (now («data» .entry)) r ≡ listings pass from (drop from (now («data» .entry))) ⌝ }
 {

@@ -1,4 +1,5 @@
 -- The laws of the table of element entries.
+-- Assumes nothing.
 pub mod StepLaws
 pub mod FillLaws
 pub mod Parts

@@ -23,8 +23,7 @@ left l notice = l
 left l (reply t) = t ++ drop (length t) l
 left l (message m) = l
 
--- The call to open the packet p, which is to be answered by o where there is room, answers r with the buffer l and leaves f
--- in it.
+-- Opening the packet p with the buffer l, where o is due, answers r and leaves f in the buffer.
 pub record Opens (p l : List ℕ) (o : Opened) (r : Packet) (f : List ℕ) : Type 0 where
   pub answers : openedIn p f r ≡ withRoom (length l) o
   pub fills : f ≡ left l (withRoom (length l) o)

@@ -115,7 +115,7 @@ module _ {Bearer Request : Type 0} where
   byBearer (up s b) m n = n
   byBearer (awaitChange s b q) m n = n
 
-  -- whether a Request that is judged drops our own change
+  -- whether a Request that is judged drops our own change; at I none is judged while a change is awaited (`ignores`)
   abbrev pub drops : Book Bearer Request → Bool
   drops idle = false
   drops (awaitSetup q) = false

@@ -49,6 +49,7 @@ module _ {Bearer : Type 0} where
   held Confused was new = was
   held Discarded was new = was
 
+  -- the same after an answer; a refusal leaves what was
   abbrev pub heldBy : Answer → Option Bearer → Option Bearer → Option Bearer
   heldBy (refusal n) was new = was
   heldBy (answer s n o d) was new = held n was new
@@ -72,7 +73,8 @@ module _ {Bearer Request Event : Type 0} where
   unattempted (up s b) before kept = kept
   unattempted (awaitChange s b q) before kept = before
 
-  -- The lines that are left after the event of line l, by its verdict; k is the book before it. Refused and discarded events,
+  -- The lines that are left after the event of line l, by its verdict; k is the book before it. `before` counts while a Request is
+  -- open, and only then. Refused and discarded events,
   -- commands and a right Accepted stay. What ends an attempt strikes it and goes with it. A release strikes the open attempt; it
   -- goes with a set-up and stays after a change. A Request answered Confused goes alone. One that is judged strikes an open
   -- change, and stays if it is right.

@@ -1,4 +1,4 @@
-// The codes of identifiers 1, 13 and 14 that have a meaning. A number in a table is the code at which a run of entries begins.
+// The codes of identifiers 1, 13 and 14 that have a meaning. The number in a comment is the code at which a run of entries begins.
 ghost use mathlib.Core.Path.{_≡_};
 ghost use Rattle.codes.specs.Codes.{isAction, isIndicator, isSignal};
 

@@ -80,4 +80,20 @@ impl Endpoint {
             State::AwaitChange => self.refused(11),
         }
     }
+
+    // The call control releases the bearer, or the attempt to have one.
+    pub fn release(self, out: &mut [u8]) -> Answer
+        ensures { λ r. ⌜ Did self Event.release (now (out .entry)) (now (out .exit)) r ⌝ }
+    {
+        if out.len() < LEAST_ROOM {
+            return self.refused(4);
+        }
+        let state = self.state;
+        match state {
+            State::Idle => self.refused(11),
+            State::AwaitSetup => self.released(),
+            State::Up => self.released(),
+            State::AwaitChange => self.released(),
+        }
+    }
 }

@@ -1,7 +1,7 @@
 // One bearer endpoint: a method for each event, and `handle` over them.
 mod commands;
-mod events;
 mod messages;
+mod timers;
 mod verdicts;
 
 ghost use Prim.Native.Nat.{ℕ};
@@ -57,7 +57,7 @@ pub struct Answer {
     pub reply: Reply,
 }
 
-// An event by value; the octets of a message stand beside it.
+// An event as a value, for `handle`; the octets of a message stand beside it.
 pub enum Call {
     // A codec entry, counted from 1, a payload and a packet time.
     SetUp(u16, u16, u16),
@@ -68,7 +68,7 @@ pub enum Call {
     Message,
 }
 
-// The answer to a configuration, and the fresh endpoint that has it. Of a configuration that is refused it is of no use.
+// The answer to a configuration, and a fresh endpoint with it, which is not to be used where the configuration is refused.
 pub struct Opening {
     pub checked: Checked,
     pub endpoint: Endpoint,

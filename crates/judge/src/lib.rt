@@ -7,7 +7,7 @@ pub mod requests;
 
 use bearer::Request;
 
-// A command's Request, where its fields suit the configuration; else the Request says nothing.
+// A command's Request, where its fields suit the configuration; else the Request is of no account.
 pub struct Command {
     pub suits: bool,
     pub request: Request,

@@ -29,7 +29,7 @@ fn is_unmoved(held: bool, b: Bearer, address: Address, s: Stream, m: &[u8]) -> b
     true
 }
 
-// The stream of s is for audio, over RTP/AVP, with a payload that is configured.
+// The stream s is for audio, over RTP/AVP, with a payload that is configured.
 fn right_stream(c: Config, s: Stream, m: &[u8]) -> bool
     ensures { λ r. ⌜ r ≡ rightStream (configurationBy c) (streamBy (now (m .entry)) s) ⌝ }
 {

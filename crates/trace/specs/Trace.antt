@@ -76,7 +76,7 @@ askedIn whole text = cond whole (eventIn text) none
 unfoldable pub lentTo : Bool → Configuration → Book → ℕ → Bool → List ℕ → Lent → Step
 lentTo detailed c k n whole room l = handled detailed c k n (askedIn whole (l .text)) room (min (l .room) (length room))
 
--- the number after n; no trace comes to the last one that there is
+-- n + 1; at 2^64 - 1, which no trace reaches, n
 unfoldable pub following : ℕ → ℕ
 following n = cond (ltb n (2 ^ 64 - 1)) (n + 1) n
 
@@ -97,7 +97,7 @@ unfoldable pub going : List ℕ → Option Configuration → Step
 going room none = refusing room
 going room (some c) = silent (configuring c) room
 
--- what stands before a step
+-- the step x, with s printed before it
 unfoldable pub behind : List ℕ → Step → Step
 behind s x = record { printed = s ++ x .printed; next = x .next; lent = x .lent }
 

@@ -83,7 +83,7 @@ fn push_more(detailed: bool, s: &[u8], state: State, b: Bearer, out: &mut [u8], 
     at
 }
 
-// Appends that, and the LF.
+// Appends what a detailed trace has more, and the LF.
 fn push_end(detailed: bool, s: &[u8], endpoint: Endpoint, out: &mut [u8], at: usize) -> usize
     ensures { λ r. ⌜ Appends (now (out .entry)) at (cond detailed (detailText (now (s .entry)) (forceBy endpoint)) [] ++ (10 ∷ [])) r (now (out .exit)) ⌝ }
 {
@@ -180,7 +180,7 @@ fn hear(
     pass(endpoint, n, detailed, out, at)
 }
 
-// Line n, which is s once what it asks for is taken off.
+// Line n: s is its text without the prefix that names the length of a buffer, `asked` that length.
 fn answer(
     endpoint: Endpoint,
     n: u64,

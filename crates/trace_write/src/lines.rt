@@ -128,7 +128,7 @@ fn push_behind(state: State, reply: Reply, out: &mut [u8], at: usize) -> usize
     push_reply(state, reply, out, k)
 }
 
-// Appends the line of an event, in whose place the endpoint had this state.
+// Appends the line of an event; state is the endpoint's before it.
 pub fn push_event(
     number: u64,
     call: Call,

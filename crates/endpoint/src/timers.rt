@@ -1,30 +1,13 @@
-// Releases and timers.
+// Timers that have expired.
 ghost use Rattle.endpoint.specs.Rule.{Event};
 ghost use Rattle.endpoint.specs.Step.{Did};
 use crate::Answer;
 use crate::Endpoint;
 use crate::LEAST_ROOM;
-use book::State;
 use book::awaits_t1;
 use book::awaits_t2;
 
 impl Endpoint {
-    // The call control releases the bearer, or the attempt to have one.
-    pub fn release(self, out: &mut [u8]) -> Answer
-        ensures { λ r. ⌜ Did self Event.release (now (out .entry)) (now (out .exit)) r ⌝ }
-    {
-        if out.len() < LEAST_ROOM {
-            return self.refused(4);
-        }
-        let state = self.state;
-        match state {
-            State::Idle => self.refused(11),
-            State::AwaitSetup => self.released(),
-            State::Up => self.released(),
-            State::AwaitChange => self.released(),
-        }
-    }
-
     // T1 has expired.
     pub fn expire_t1(self, out: &mut [u8]) -> Answer
         ensures { λ r. ⌜ Did self Event.t1 (now (out .entry)) (now (out .exit)) r ⌝ }
