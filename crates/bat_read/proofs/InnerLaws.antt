@@ -1,17 +1,18 @@
 -- The inner element at fault stands inside the contents.
 -- Assumes nothing.
 use Prim.Native.Nat.{ℕ, suc, _+_, _≤_}
-use mathlib.Core.Path.{_≡_, refl, sym, _∙_}
+use mathlib.Core.Path.{_≡_, refl, sym, ap, _∙_}
 use mathlib.Core.List.{List, [], _∷_}
 use mathlib.Core.Bool.{Bool, true, false, _&&_, cond}
 use mathlib.Core.Option.{Option, none, some, Option·elim}
-use lib.ListN.{length, take, drop}
+use lib.ListN.{length, take, drop, length-append}
 use lib.Dec.{leb, ltb, eqb}
 use native.Mathlib.Omega.{arith}
 use Rattle.codes.specs.Codes.{isAction}
 use Rattle.bat.specs.declared.Place.the-variants.{Itself, Inner}
-use Rattle.bat.specs.Framing.{octet, unmarked, Element, whole, Front, front, first, unframed, ended, onFront}
+use Rattle.bat.specs.Framing.{octet, unmarked, Element, head, whole, Front, front, first, unframed, ended, onFront}
 use Rattle.bat.specs.Values.{Diagnostic, ListedCodec, Value, action, backbone, address, codecs, single, report, characteristics, control, tunnelling, controlUnit, capability, indicators, signalType, duration, signal, untimed, Reading, decoded, unrecognised, wrong, bit1, rightCodec, codecOf, rightIndicators, rightType, wordOf, Codecs, allCodecs, offence, withCodec, onCodecs, codecThen, codecsIn, isSingle, listedCodec, actionIn, backboneIn, addressIn, singleIn, diagnosticsIn, reportIn, characteristicsIn, controlIn, tunnellingIn, unitIn, capabilityIn, indicatorsIn, typeIn, durationIn, codecListIn, Kind, kindOf, lastingOf, isType, isDuration, lastBy, timedBy, signalBy, signalIn, reading}
+use Rattle.bat.specs.Judging.{indexBy, Judgement, judgement, unknown, verdictBy, verdict}
 use Rattle.bat.proofs.WalkLaws.{front-nil, front-length, walk-ended, walk-unframed, walk-first, by-front}
 use Rattle.bat_read.proofs.ConstructorLaws.{codecsAt}
 
@@ -140,3 +141,21 @@ inner-inside i s =
     (inner-cond (eqb i 14) (typeIn s) from-15 n (simple n (rightType s) (signalType (octet 0 s)))
     (inner-cond (eqb i 15) (durationIn s) all-else n (simple n (eqb n 2) (duration (wordOf s)))
     (omega arith)))))))))))))))
+
+-- ---- the index of a diagnostic does not pass the end of its element, so it fits in the sixteen bits of a report
+index-in : (pass : Bool) (e : Element) (x : Reading) → reading (e .identifier) (e .contents) ≡ x → (j : Judgement) → verdictBy pass e x ≡ unknown j → j .diagnostic .index ≤ length (whole e)
+unfolding verdictBy judgement indexBy innerOf whole
+index-in pass e (decoded v) q j p = absurd (let z : _≡_ {A = ℕ} 0 1 = cc in omega arith)
+index-in pass e (unrecognised Itself) q j p =
+    let z : judgement pass (e .identifier) (e .compatibility) 0 ≡ j = cc in
+    let i : 0 ≡ j .diagnostic .index = ap (λ (k : Judgement). k .diagnostic .index) z in
+    omega arith
+index-in pass e (unrecognised (Inner d)) q j p =
+    let z : judgement pass (e .identifier) (e .compatibility) (length (head e) + d) ≡ j = cc in
+    let i : length (head e) + d ≡ j .diagnostic .index = ap (λ (k : Judgement). k .diagnostic .index) z in
+    let l : d ≤ length (e .contents) = rw q at (inner-inside (e .identifier) (e .contents)) in
+    omega (arith, length-append (head e) (e .contents))
+
+pub index-inside : (pass : Bool) (e : Element) (j : Judgement) → verdict pass e ≡ unknown j → j .diagnostic .index ≤ length (whole e)
+unfolding verdict
+index-inside pass e j p = index-in pass e (reading (e .identifier) (e .contents)) refl j p
