@@ -16,7 +16,7 @@ use book::State;
 use configuration::Checked;
 use configuration::Config;
 use configuration::check::check;
-use ipbcp::MOST_OCTETS;
+use ipbcp::MOST_READ;
 use media::Stream;
 use media::Texts;
 use octets::Span;
@@ -95,7 +95,7 @@ impl Endpoint {
     {
         let stream = blank_stream();
         let offered = [0u8; MOST_OFFERED];
-        let text = [0u8; MOST_OCTETS];
+        let text = [0u8; MOST_READ];
         let checked = check(config);
         Opening {
             checked,

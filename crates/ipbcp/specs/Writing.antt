@@ -63,9 +63,13 @@ ipbcpText k = ipbcpStart ++ (49 ∷ 32 ∷ wordOf k)
 unfoldable pub ptimeLines : ℕ → List (List ℕ)
 ptimeLines n = cond (eqb n 0) [] (ptimeText n ∷ [])
 
--- "m=" and what it says; rtpmap; fmtp in order; ptime
+-- rtpmap, fmtp in order, and ptime
+abbrev pub attributeLines : Stream → List (List ℕ)
+attributeLines s = rtpmapLines s ++ (fmtpLines s ++ ptimeLines (s .ptime))
+
+-- "m=" and what it says, and the attributes
 unfoldable pub streamLines : Stream → List (List ℕ)
-streamLines s = (109 ∷ 61 ∷ mediaText s) ∷ (rtpmapLines s ++ (fmtpLines s ++ ptimeLines (s .ptime)))
+streamLines s = (109 ∷ 61 ∷ mediaText s) ∷ attributeLines s
 
 unfoldable pub kindIn : Content → Kind
 kindIn (request s) = Request

@@ -88,6 +88,6 @@ isAttribute a = begins rtpmapWord a || (begins fmtpWord a || begins ptimeWord a)
 -- `a=` behind the media line; other attributes are skipped
 unfoldable pub attributeOf : Stream → List ℕ → Option Stream
 attributeOf s a =
-    cond (begins rtpmapWord a) (rtpmapOf s (drop 7 a))
-    (cond (begins fmtpWord a) (fmtpOf s (drop 5 a))
-    (cond (begins ptimeWord a) (ptimeOf s (drop 6 a)) (some s)))
+    cond (begins rtpmapWord a) (rtpmapOf s (drop (length rtpmapWord) a))
+    (cond (begins fmtpWord a) (fmtpOf s (drop (length fmtpWord) a))
+    (cond (begins ptimeWord a) (ptimeOf s (drop (length ptimeWord) a)) (some s)))
