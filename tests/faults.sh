@@ -1,9 +1,9 @@
 #!/usr/bin/env bash
 # faults.sh [INSPECT [BEARERTRACE [TRACEDETAIL]]]: faults of input and output. Gives each program input that is closed,
 # can't be read, is empty, is cut at every octet, comes an octet at a time, is interrupted or is not there yet; and
-# output that is full, closed, limited, has no reader or a slow one. Each time the program ends by itself, nothing goes
-# to standard error, and what it prints is right, or the front of what is right where the output is not taken
-# (docs/DECISIONS.md, "Failures of input and output"). The programs are the built ones in target/bin unless given. Ends
+# output that is full, closed, limited, has no reader or a slow one. Each time the program ends by itself, says on
+# standard error what has failed and nothing else, and what it prints is right, or the front of what is right where the
+# output is not taken (docs/DECISIONS.md, "Failures of input and output"). The programs are the built ones in target/bin unless given. Ends
 # with status 1 where something is wrong. No part of the gate; needs Linux and Python.
 set -u
 export LC_ALL=C
@@ -17,6 +17,9 @@ for name in inspect bearertrace tracedetail; do
 done
 work=$(mktemp -d)
 trap 'rm -rf "$work"' EXIT
+# What a program says on standard error where a read fails, and where its output is not taken.
+unread="the input can't be read"
+untaken='the output was not taken'
 # Seconds in which a program has to end.
 limit=20
 checks=0
@@ -31,7 +34,7 @@ wrong() {
 run() {
     timeout -k 1 $limit "$@" 2> "$work/err"
 }
-# ended WHAT STATUS WANTED: how the program has ended.
+# ended WHAT STATUS WANTED [COMPLAINT]: how the program has ended, and what it has said on standard error.
 ended() {
     checks=$((checks + 1))
     if [ "$2" = 124 ] || [ "$2" = 137 ]; then
@@ -39,8 +42,8 @@ ended() {
     elif [ "$2" != "$3" ]; then
         wrong "$1: status $2, not $3"
     fi
-    if [ -s "$work/err" ]; then
-        wrong "$1: writes to standard error: $(head -c 200 "$work/err")"
+    if [ "$(cat "$work/err")" != "${4:-}" ]; then
+        wrong "$1: says '$(head -c 200 "$work/err")' on standard error, not '${4:-}'"
     fi
 }
 # printed WHAT FILE: what was printed is what stands in FILE.
@@ -125,10 +128,10 @@ no_input() {
     ended 'empty input' $? 0
     printed 'empty input' "$work/none"
     run "$program" <&- > "$work/out"
-    ended 'closed input' $? 0
+    ended 'closed input' $? 0 "$unread"
     printed 'closed input' "$work/none"
     run "$program" < "$work" > "$work/out"
-    ended 'a directory as input' $? 0
+    ended 'a directory as input' $? 0 "$unread"
     printed 'a directory as input' "$work/none"
 }
 octet_by_octet() {
@@ -223,32 +226,32 @@ stopped() {
 }
 
 # ---- output
-# not_taken WHAT STATUS: input of which more might come, and an output, descriptor 3, that takes nothing.
+# not_taken WHAT STATUS COMPLAINT: input of which more might come, and an output, descriptor 3, that takes nothing.
 not_taken() {
     local input pid
     exec {input}< <(cat "$work/$name.long" && exec sleep $((limit * 2)))
     pid=$!
-    run "${@:3}" "$program" <&$input >&3
-    ended "$1" $? "$2"
+    run "${@:4}" "$program" <&$input >&3
+    ended "$1" $? "$2" "$3"
     exec {input}<&-
     kill $pid 2> /dev/null
 }
 no_output() {
-    not_taken 'a full disk' 0 env 3> /dev/full
+    not_taken 'a full disk' 0 "$untaken" env 3> /dev/full
     run "$program" < "$work/$name.long" >&-
-    ended 'closed output' $? 0
+    ended 'closed output' $? 0 "$untaken"
     # A pipe that has lost its reader.
     local both
     rm -f "$work/fifo" && mkfifo "$work/fifo"
     exec {both}<> "$work/fifo" 3> "$work/fifo" {both}>&-
-    not_taken 'no reader' 141 env --default-signal=PIPE
-    not_taken 'no reader, and the signal is ignored' 0 env --ignore-signal=PIPE
+    not_taken 'no reader' 141 '' env --default-signal=PIPE
+    not_taken 'no reader, and the signal is ignored' 0 "$untaken" env --ignore-signal=PIPE
     exec 3>&-
 }
 # A file that may have 1,024 octets.
 limited() {
     (trap '' XFSZ && ulimit -f 1 && run "$program" < "$work/$name.long") > "$work/out"
-    ended 'a limited file' $? 0
+    ended 'a limited file' $? 0 "$untaken"
     printed_front 'a limited file' "$work/$name.long-right"
     [ "$(wc -c < "$work/out")" = 1024 ] || wrong "a limited file: $(wc -c < "$work/out") octets, not 1024"
 }
@@ -302,12 +305,12 @@ END
 # is not taken ends the program.
 not_waiting() {
     unblocked in
-    ended 'input that is not there yet' $? 0
+    ended 'input that is not there yet' $? 0 "$unread"
     head -c 300 "$work/$name.in" > "$work/front"
     run "$program" < "$work/front" > "$work/out"
     printed 'input that is not there yet' "$work/$name.part"
     unblocked out
-    ended 'output that is not taken yet' $? 0
+    ended 'output that is not taken yet' $? 0 "$untaken"
     cp "$work/$name.part" "$work/out"
     printed_front 'output that is not taken yet' "$work/$name.long-right"
 }

@@ -3,6 +3,7 @@
 tests/vectors and samples, to the three programs, and judges what they answer. tests/fuzz.sh, which calls it, says
 what is looked at. The same SEED gives the same lines. CHECKED lines more are given to the programs under valgrind."""
 import collections
+import contextlib
 import os
 import random
 import re
@@ -923,7 +924,17 @@ class Fault(Exception):
 
     def __init__(self, what, line=None):
         super().__init__(what)
-        self.line = line
+        self.line, self.data = line, None
+
+
+@contextlib.contextmanager
+def giving(data):
+    """A fault in here comes with this input, which is another than that of the batch."""
+    try:
+        yield
+    except Fault as fault:
+        fault.data = data
+        raise
 
 
 def read(root, name):
@@ -1162,14 +1173,16 @@ class Fuzz:
         rng = self.rng("inspect checks", n)
         if n % 10 == 0:
             part = data[:rng.choice((20000, 60000, 400000))]
-            again = run_in_pieces(rng, argv, part)
-            same(lines_of(again), lines_of(run(argv, part)), "given in pieces it differs")
+            with giving(part):
+                again = run_in_pieces(rng, argv, part)
+                same(lines_of(again), lines_of(run(argv, part)), "given in pieces it differs")
             self.counts["inspect lines given in pieces"] += part.count(b"\n")
         if n % 5 == 0:
             lines = [line for line, _ in cut(data)]
             more, there = with_bad(rng, [], lines, lambda rng: rng.choice(BAD_LINES))
-            left = [line for line, was in zip(lines_of(run(argv, more)), there) if was]
-            same(left, got, "a bad line alters a later answer")
+            with giving(more):
+                left = [line for line, was in zip(lines_of(run(argv, more)), there) if was]
+                same(left, got, "a bad line alters a later answer")
             self.counts["inspect lines among bad ones"] += len(lines)
 
     def inspect_part(self, count):
@@ -1180,7 +1193,7 @@ class Fuzz:
             try:
                 self.inspect_whole(argv, data, n)
             except Fault as fault:
-                self.keep("inspect", fault, self.narrowed_inspect(argv, data, fault))
+                self.keep("inspect", fault, fault.data or self.narrowed_inspect(argv, data, fault))
                 return False
             done = len(cut(data))
             self.counts["inspect lines"] += done
@@ -1215,7 +1228,8 @@ class Fuzz:
             self.counts[name + " lines"] += len(cut(data))
             self.counts[name + " traces"] += 1
             if n % 10 == 0:
-                same(lines_of(run_in_pieces(rng, argv, data)), got, "given in pieces it differs")
+                with giving(data):
+                    same(lines_of(run_in_pieces(rng, argv, data)), got, "given in pieces it differs")
                 self.counts[name + " lines given in pieces"] += len(cut(data))
             if n % 5 == 0 and got != ["refused-12"]:
                 self.among_bad(rng, argv, detailed, data, got)
@@ -1227,12 +1241,13 @@ class Fuzz:
         lines = [line for line, whole in parts if whole]
         front = len(parts) - (len(got) - 1)
         more, there = with_bad(rng, lines[:front], lines[front:], lambda rng: bad_line(rng, detailed))
-        out = lines_of(run(argv, more))
-        left = [line for line, was in zip(out[1:], there[front:]) if was]
-        without = [line.split(" ", 1)[1] for line in left]
-        same(without, [line.split(" ", 1)[1] for line in got[1:1 + len(left)]], "a bad line alters a later answer")
-        if len(left) != len(lines) - front:
-            raise Fault("%d answers among bad lines for %d" % (len(left), len(lines) - front))
+        with giving(more):
+            out = lines_of(run(argv, more))
+            left = [line for line, was in zip(out[1:], there[front:]) if was]
+            without = [line.split(" ", 1)[1] for line in left]
+            same(without, [line.split(" ", 1)[1] for line in got[1:1 + len(left)]], "a bad line alters a later answer")
+            if len(left) != len(lines) - front:
+                raise Fault("%d answers among bad lines for %d" % (len(left), len(lines) - front))
 
     def trace_part(self, count):
         n = 0
@@ -1245,7 +1260,7 @@ class Fuzz:
             except Fault as fault:
                 argv, detailed = self.at
                 name = "tracedetail" if detailed else "bearertrace"
-                self.keep(name, fault, self.narrowed_trace(argv, detailed, data, fault))
+                self.keep(name, fault, fault.data or self.narrowed_trace(argv, detailed, data, fault))
                 return False
             count -= 2 * len(cut(data))
             n += 1
@@ -1268,8 +1283,8 @@ class Fuzz:
         return narrow(head, lines[len(head):], fails)
 
     def valgrind_part(self, count):
-        """So many lines more, under valgrind: it says nothing, and the answers are the same. (Address sanitizer is put
-        in by a C compiler; what compiles these programs has no such thing.)"""
+        """So many lines more, under valgrind: it says nothing, and the answers are the same. (The built
+        programs have no address sanitizer in them. Valgrind needs none, but can't tell arrays on the stack apart.)"""
         if not shutil.which("valgrind"):
             print("valgrind is not installed: no line is run under it")
             return True

@@ -3,7 +3,7 @@
 use Prim.Native.Nat.{ℕ, _+_, _*_, _/_, _%_, _^_, _<_}
 use mathlib.Core.Path.{_≡_, refl, sym, ap, _∙_}
 use mathlib.Core.List.{List, [], _∷_, _++_, map}
-use mathlib.Core.Bool.{true, false, _&&_, true≢false, or-true}
+use mathlib.Core.Bool.{true, false, _&&_, true≢false, or-true, and-eq-true-iff}
 use lib.ListN.{length, length-map}
 use lib.Dec.{leb, eqb}
 use native.Mathlib.Nat.{mod-lt, div-lt-iff-lt-mul}
@@ -25,7 +25,7 @@ use Rattle.address.specs.Ipv4.{isOctet, octetValue, isDotted, dottedValu
 use Rattle.address.specs.Ipv6.{isGroup, groupValue, partsOf, kindOf, full, beforeGap, afterGap, hasGap, filled, gapped, readV6}
 use Rattle.address.specs.Canonical.{eachAfter, joined, numbersOf, ipv4Text, addressText}
 use Rattle.address.proofs.KindLaws.{cond-told, kind4-told, kind6-told}
-use Rattle.address.proofs.PartLaws.{and-both, Below, base-below, below-values}
+use Rattle.address.proofs.PartLaws.{Below, base-below, below-values}
 use Rattle.address.proofs.Ipv6Laws.{groups-below, filled-below, length-filled}
 use Rattle.address.proofs.RoundTrip.{ipv4-back, ipv6-back}
 use Rattle.address.proofs.Visible.{ipv6-has}
@@ -47,7 +47,7 @@ octet-small p e = octet-low (readNumber p) e
 dotted-small : (ps : List (List ℕ)) → isDotted ps ≡ true → dottedValue ps < 2 ^ 32
 unfolding isDotted dottedValue
 dotted-small ps e =
-    let (p, q) = and-both (allParts isOctet ps) (eqb (length ps) 4) e in
+    let (p, q) = and-eq-true-iff (allParts isOctet ps) (eqb (length ps) 4) .0 e in
     let k : inBase 256 0 (map octetValue ps) < 256 ^ (0 + length (map octetValue ps)) =
     base-below 256 (map octetValue ps) 0 0 (below-values 256 isOctet octetValue octet-small ps p) (omega arith) in
     rw (length-map ps octetValue, eqb-true (length ps) 4 q) at k
@@ -84,15 +84,15 @@ full-host : (ps : List (List ℕ)) (a : Address) → full ps ≡ Unicast a → H
 unfolding full
 full-host ps a e =
     let (t, x) = cond-told (allParts isGroup ps && eqb (length ps) 8) (kindOf (map groupValue ps)) a e in
-    let (p, q) = and-both (allParts isGroup ps) (eqb (length ps) 8) t in
+    let (p, q) = and-eq-true-iff (allParts isGroup ps) (eqb (length ps) 8) .0 t in
     groups-host (map groupValue ps) a (groups-below ps p) (length-map ps groupValue ∙ eqb-true (length ps) 8 q) x
 
 gapped-host : (ls rs : List (List ℕ)) (a : Address) → gapped ls rs ≡ Unicast a → Host6 a
 unfolding gapped
 gapped-host ls rs a e =
     let (t, x) = cond-told (allParts isGroup ls && (allParts isGroup rs && leb (length ls + length rs) 7)) (kindOf (filled ls rs)) a e in
-    let (p, q) = and-both (allParts isGroup ls) (allParts isGroup rs && leb (length ls + length rs) 7) t in
-    let (r, m) = and-both (allParts isGroup rs) (leb (length ls + length rs) 7) q in
+    let (p, q) = and-eq-true-iff (allParts isGroup ls) (allParts isGroup rs && leb (length ls + length rs) 7) .0 t in
+    let (r, m) = and-eq-true-iff (allParts isGroup rs) (leb (length ls + length rs) 7) .0 q in
     groups-host (filled ls rs) a (filled-below ls rs p r) (length-filled ls rs (leb-true (length ls + length rs) 7 m)) x
 
 read-host-6 : (s : List ℕ) (a : Address) → readV6 s ≡ Unicast a → Host6 a

@@ -5,7 +5,7 @@ use mir.Val.{Fits}
 use mir.Syntax.{w16}
 use mathlib.Core.Path.{_≡_, refl, sym, _∙_}
 use mathlib.Core.List.{List, [], _∷_, map}
-use mathlib.Core.Bool.{Bool, true, false, _&&_, cond}
+use mathlib.Core.Bool.{Bool, true, false, _&&_, cond, and-eq-true-iff}
 use lib.ListN.{length, getD, drop, length-map, drop-of-length-le}
 use lib.Dec.{leb}
 use native.Mathlib.Nat.{pow-le-pow-right, zero-add}
@@ -20,7 +20,7 @@ use Rattle.octets.proofs.HexLaws.{valued}
 use Rattle.address.specs.Parts.{inBase}
 use Rattle.address.specs.Ipv6.{isGroup, groupValue}
 use Rattle.address.specs.Steps.{readGroup}
-use Rattle.address.proofs.PartLaws.{Below, none, one, and-both, next-below, base-below}
+use Rattle.address.proofs.PartLaws.{Below, none, one, next-below, base-below}
 
 -- the number after n of the digits of s, where s has digits alone
 unfoldable pub digitsFrom : ℕ → List ℕ → Number
@@ -70,8 +70,8 @@ hex-below (b ∷ bs) = one (valued b (hexValue b) refl .low) (hex-below bs)
 pub group-small : (p : List ℕ) → isGroup p ≡ true → groupValue p < 65536
 unfolding isGroup groupValue
 group-small p e =
-    let (a, b) = and-both (leb 1 (length p)) (leb (length p) 4 && allHex p) e in
-    let (q, r) = and-both (leb (length p) 4) (allHex p) b in
+    let (a, b) = and-eq-true-iff (leb 1 (length p)) (leb (length p) 4 && allHex p) .0 e in
+    let (q, r) = and-eq-true-iff (leb (length p) 4) (allHex p) .0 b in
     let k : inBase 16 0 (map hexValue p) < 16 ^ length p = rw (zero-add, length-map p hexValue) at (base-below 16 (map hexValue p) 0 0 (hex-below p) (omega arith)) in
     let m : 16 ^ length p ≤ 16 ^ 4 = pow-le-pow-right {n = 16} (omega arith) {i = length p} {j = 4} (leb-true (length p) 4 q) in
     omega arith

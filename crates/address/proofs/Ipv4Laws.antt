@@ -6,7 +6,7 @@ use mathlib.Core.List.{List, [], _∷_, map}
 use mathlib.Core.Bool.{false, _&&_, cond, and-false}
 use lib.ListN.{length, getD, drop, length-drop, drop-of-length-le}
 use lib.Dec.{leb, eqb}
-use native.Mathlib.Nat.{zero-add, le-refl, le-trans}
+use native.Mathlib.Nat.{zero-add}
 use native.Mathlib.Omega.{arith}
 use borrow.Author.Tests.{le-leb, lt-leb, eq-eqb, ne-eqb}
 use Rattle.octets.specs.declared.Number.{Number}
@@ -16,7 +16,7 @@ use Rattle.octets.specs.Decimal.{allDigits, valueFrom, shortest, numberFrom, re
 use Rattle.octets.proofs.CaseLaws.{by-eq, by-lt, by-bool}
 use Rattle.octets.proofs.Laws.{next}
 use Rattle.octets.proofs.SplitLaws.{before-here, before-more, length-before, find-found, find-more, find-past, split-some, part-dot, part-last}
-use Rattle.octets.proofs.DecimalLaws.{number-low, number-high, number-digit, read-none, read-one, read-zero, read-more}
+use Rattle.octets.proofs.DecimalLaws.{number-low, number-high, number-digit, read-none, read-one, read-zero, read-more, value-grows}
 use Rattle.address.specs.declared.Parsed.{Parsed}
 use Rattle.address.specs.declared.Parsed.the-variants.{Unreadable}
 use Rattle.address.specs.declared.ipv4.Part.{Part}
@@ -34,11 +34,6 @@ octet-low e n h = simp (le-leb n 65535 (omega arith), le-leb n 255 h)
 octet-bad : (e : ℕ) (z : Number) → Bad ≡ z → NoOctet ≡ octetTo e z
 unfolding octetTo onNumber
 octet-bad e z q = rw (← q)
-
-value-grows : (n : ℕ) (s : List ℕ) → n ≤ valueFrom n s
-unfolding valueFrom
-value-grows n [] = le-refl n
-value-grows n (b ∷ bs) = le-trans (omega arith) (value-grows (n * 10 + (b - 48)) bs)
 
 octet-high : (e n : ℕ) (s : List ℕ) → 255 < n → NoOctet ≡ octetTo e (numberFrom n s)
 unfolding octetTo onNumber numberFrom

@@ -3,29 +3,19 @@
 use Prim.Native.Nat.{ℕ, _+_, _≤_}
 use mathlib.Core.Path.{_≡_, refl, sym, ap, _∙_}
 use mathlib.Core.List.{List, [], _∷_, _++_, append-nil, append-assoc, map}
-use mathlib.Core.Bool.{true, false, true≢false}
+use mathlib.Core.Bool.{false}
 use lib.ListN.{length, length-append}
-use native.Mathlib.Nat.{le-of-eq}
 use native.Mathlib.Omega.{arith}
-use borrow.Author.Tests.{eq-eqb, ne-eqb}
-use Rattle.octets.specs.Split.{has, onFirst, splitOn}
+use borrow.Author.Tests.{ne-eqb}
+use Rattle.octets.specs.Split.{has, splitOn}
 use Rattle.octets.specs.Hex.{isHexDigit}
-use Rattle.octets.proofs.CaseLaws.{by-eq}
-use Rattle.octets.proofs.SplitLaws.{split-here, split-more, split-last, has-not}
+use Rattle.octets.proofs.SplitLaws.{has-cons, split-append, split-whole}
 use Rattle.address.specs.Ipv6.{partsOf, beforeGap}
 use Rattle.address.specs.Canonical.{eachAfter, joined, groupText}
 use Rattle.address.proofs.WriteLaws.{width-some}
 use Rattle.address.proofs.TextLaws.{length-group, group-has}
 
 -- ---- octets that a text has not
--- c is neither the first octet nor among the others
-has-cons : (c b : ℕ) (bs : List ℕ) (X : Type 0) → has c (b ∷ bs) ≡ false → ((b ≡ c → ⊥) → has c bs ≡ false → X) → X
-unfolding has
-has-cons c b bs X h go =
-    by-eq b c _
-    (λ e. absurd (let k : true ≡ false = rw (eq-eqb b c e) at h in true≢false k))
-    (λ e. go e (rw (ne-eqb b c e) at h))
-
 pub has-append : (c : ℕ) (xs ys : List ℕ) → has c xs ≡ false → has c ys ≡ false → has c (xs ++ ys) ≡ false
 unfolding has
 has-append c [] ys p q = q
@@ -42,20 +32,10 @@ has-joined c d f e p [] = refl
 has-joined c d f e p (n ∷ ns) = has-append c (f n) (eachAfter d f ns) (p n) (has-each c d f e p ns)
 
 -- ---- cutting at the separator
-split-text : (c : ℕ) (xs ys : List ℕ) → has c xs ≡ false → splitOn c (xs ++ (c ∷ ys)) ≡ xs ∷ splitOn c ys
-unfolding onFirst
-split-text c [] ys h = split-here c c ys refl
-split-text c (x ∷ xs) ys h = has-cons c x xs _ h (λ e r. split-more c x (xs ++ (c ∷ ys)) e ∙ ap (onFirst x) (split-text c xs ys r))
-
-split-whole : (c : ℕ) (xs : List ℕ) → has c xs ≡ false → splitOn c xs ≡ xs ∷ []
-split-whole c xs h =
-    let e = has-not c xs h in
-    split-last c xs (le-of-eq (ap length (sym e))) ∙ ap (λ (z : List ℕ). z ∷ []) e
-
 pub split-joined : (c : ℕ) (f : ℕ → List ℕ) → ((n : ℕ) → has c (f n) ≡ false) → (n : ℕ) (ns : List ℕ) → splitOn c (joined c f (n ∷ ns)) ≡ map f (n ∷ ns)
 unfolding joined eachAfter
 split-joined c f p n [] = ap (splitOn c) (append-nil (f n)) ∙ split-whole c (f n) (p n)
-split-joined c f p n (m ∷ ns) = split-text c (f n) (f m ++ eachAfter c f ns) (p n) ∙ ap (λ (ts : List (List ℕ)). f n ∷ ts) (split-joined c f p m ns)
+split-joined c f p n (m ∷ ns) = split-append c (f n) (f m ++ eachAfter c f ns) (p n) ∙ ap (λ (ts : List (List ℕ)). f n ∷ ts) (split-joined c f p m ns)
 
 -- ---- groups
 no-colon : (g : ℕ) → has 58 (groupText g) ≡ false

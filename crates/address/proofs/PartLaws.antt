@@ -3,15 +3,11 @@
 use Prim.Native.Nat.{ℕ, zero, suc, _+_, _*_, _^_, _≤_, _<_}
 use mathlib.Core.Path.{_≡_, refl, ap}
 use mathlib.Core.List.{List, [], _∷_, _++_, map}
-use mathlib.Core.Bool.{Bool, true, false, _&&_}
+use mathlib.Core.Bool.{Bool, true, and-eq-true-iff}
 use lib.ListN.{length, take, drop, replicate}
 use native.Mathlib.Nat.{pow-suc, add-zero, suc-mul, mul-le-mul-right}
 use native.Mathlib.Omega.{arith}
 use Rattle.address.specs.Parts.{allParts, inBase}
-
-pub and-both : (a b : Bool) → (a && b) ≡ true → (a ≡ true) × (b ≡ true)
-and-both true b e = (refl, e)
-and-both false b e = let z : _≡_ {A = ℕ} 0 1 = cc in absurd (omega arith)
 
 -- ---- digits
 -- every number of ns is below b
@@ -57,7 +53,7 @@ pub below-values : (b : ℕ) (is : List ℕ → Bool) (value : List ℕ → ℕ)
 unfolding allParts
 below-values b is value f [] e = none
 below-values b is value f (p ∷ ps) e =
-    let (q, r) = and-both (is p) (allParts is ps) e in
+    let (q, r) = and-eq-true-iff (is p) (allParts is ps) .0 e in
     one (f p q) (below-values b is value f ps r)
 
 -- a number below b has a text that is read as itself

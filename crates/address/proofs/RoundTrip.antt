@@ -13,6 +13,7 @@ use Rattle.octets.specs.Append.{numberText}
 use Rattle.octets.specs.Decimal.{isDigit}
 use Rattle.octets.specs.Split.{has, splitOn}
 use Rattle.octets.proofs.CaseLaws.{by-lt}
+use Rattle.octets.proofs.RoundTrip.{number-has}
 use Rattle.address.specs.declared.Address.{Address}
 use Rattle.address.specs.declared.Address.the-variants.{V4, V6}
 use Rattle.address.specs.declared.Parsed.{Parsed}
@@ -29,7 +30,7 @@ use Rattle.address.proofs.PartLaws.{Below, none, one, below-take, below
 use Rattle.address.proofs.GapLaws.{has-gap, no-gap, gap-here}
 use Rattle.address.proofs.HalvesLaws.{halvesOf, halves-of}
 use Rattle.address.proofs.RunLaws.{IsRun, longest-is, around}
-use Rattle.address.proofs.TextLaws.{number-has, octet-back, group-back}
+use Rattle.address.proofs.TextLaws.{octet-back, group-back}
 use Rattle.address.proofs.JoinLaws.{split-joined, parts-joined, gap-joined}
 
 -- ---- the digits of a number

@@ -3,39 +3,25 @@
 use Prim.Native.Nat.{ℕ, zero, suc, _+_, _*_, _/_, _%_, _^_, _<_}
 use mathlib.Core.Path.{_≡_, refl, sym, ap, _∙_}
 use mathlib.Core.List.{List, [], _∷_, _++_, map}
-use mathlib.Core.Bool.{Bool, true, false, _&&_, true≢false, and-true, and-assoc}
+use mathlib.Core.Bool.{Bool, true, false, _&&_, true≢false, and-true, and-assoc, and-eq-true-iff}
 use lib.ListN.{length, length-append}
 use native.Mathlib.Nat.{pow-suc}
 use native.Mathlib.Numerals.{add-one}
 use native.Mathlib.Omega.{arith}
 use borrow.Author.Tests.{le-leb, lt-leb, lt-ltb, le-ltb, ne-eqb}
 use Rattle.octets.specs.Split.{has}
-use Rattle.octets.specs.Append.{numberText, widthFrom}
-use Rattle.octets.specs.Decimal.{isDigit, allDigits, onNumber}
+use Rattle.octets.specs.Append.{numberText}
+use Rattle.octets.specs.Decimal.{onNumber}
 use Rattle.octets.specs.Hex.{isHexDigit, hexValue, allHex}
 use Rattle.octets.proofs.CaseLaws.{by-eq, by-lt}
-use Rattle.octets.proofs.RoundTrip.{all-last, number-back}
+use Rattle.octets.proofs.RoundTrip.{number-back}
 use Rattle.address.specs.Parts.{inBase}
 use Rattle.address.specs.Ipv4.{isOctet, octetValue}
 use Rattle.address.specs.Ipv6.{isGroup, groupValue}
 use Rattle.address.specs.Canonical.{lowDigit, lastHex, hexWidth, groupText}
-use Rattle.address.proofs.PartLaws.{and-both}
 use Rattle.address.proofs.WriteLaws.{width-some, width-few}
 
 -- ---- decimal numbers
-digits-has : (c : ℕ) (s : List ℕ) → isDigit c ≡ false → allDigits s ≡ true → has c s ≡ false
-unfolding has allDigits
-digits-has c [] n e = refl
-digits-has c (b ∷ bs) n e =
-    let (p, q) = and-both (isDigit b) (allDigits bs) e in
-    by-eq b c _
-    (λ z. absurd (true≢false (sym p ∙ ap isDigit z ∙ n)))
-    (λ z. rw (ne-eqb b c z) (digits-has c bs n q))
-
-pub number-has : (c n : ℕ) → isDigit c ≡ false → has c (numberText n) ≡ false
-unfolding numberText
-number-has c n e = digits-has c (numberText n) e (all-last (widthFrom 19 n) n)
-
 pub octet-back : (n : ℕ) → n < 256 → (isOctet (numberText n) ≡ true) × (octetValue (numberText n) ≡ n)
 unfolding isOctet octetValue onNumber
 octet-back n h = let e = number-back n (omega arith) in (rw (e, le-leb n 255 (omega arith)), rw e)
@@ -45,7 +31,7 @@ hex-has : (c : ℕ) (s : List ℕ) → isHexDigit c ≡ false → allHex s ≡ t
 unfolding has allHex
 hex-has c [] n e = refl
 hex-has c (b ∷ bs) n e =
-    let (p, q) = and-both (isHexDigit b) (allHex bs) e in
+    let (p, q) = and-eq-true-iff (isHexDigit b) (allHex bs) .0 e in
     by-eq b c _
     (λ z. absurd (true≢false (sym p ∙ ap isHexDigit z ∙ n)))
     (λ z. rw (ne-eqb b c z) (hex-has c bs n q))

@@ -13,11 +13,12 @@ use Rattle.octets.specs.Decimal.{isDigit}
 use Rattle.octets.specs.Hex.{isHexDigit}
 use Rattle.octets.specs.Split.{has}
 use Rattle.octets.proofs.CaseLaws.{by-bool}
+use Rattle.octets.proofs.RoundTrip.{number-has}
 use Rattle.address.specs.declared.Address.{Address}
 use Rattle.address.specs.declared.Address.the-variants.{V4, V6}
 use Rattle.address.specs.declared.write.Run.{Run}
 use Rattle.address.specs.Canonical.{joined, numbersOf, ipv4Text, groupText, groupsOf, longestRun, shortened, ipv6Text, addressText}
-use Rattle.address.proofs.TextLaws.{number-has, group-has}
+use Rattle.address.proofs.TextLaws.{group-has}
 use Rattle.address.proofs.JoinLaws.{has-append, has-joined}
 
 ipv4-has : (c n : ℕ) → isDigit c ≡ false → (46 ≡ c → ⊥) → has c (ipv4Text n) ≡ false

@@ -4,7 +4,7 @@
 use Prim.Native.Nat.{ℕ, suc, _+_, _*_, _≤_, _<_}
 use mathlib.Core.Path.{_≡_, refl, sym, _∙_}
 use mathlib.Core.List.{List, [], _∷_, _++_, append-assoc}
-use mathlib.Core.Bool.{Bool, true, false, _&&_, cond}
+use mathlib.Core.Bool.{Bool, true, false, _&&_, cond, and-eq-true-iff}
 use mathlib.Core.Option.{Option, none, some, Option·elim, map-eq-some-iff}
 use lib.ListN.{length, getD, take, drop, length-append, length-drop, take-append-drop}
 use lib.Seq.{length-take-le, getD-append-seam}
@@ -20,7 +20,7 @@ use Rattle.bat.specs.Values.{Diagnostic, Codec, ListedCodec, Kind, Lasti
 use Rattle.bat.specs.Writing.{sizeText, elementText, wordText, codecText, codecsText, diagnosticsText, lastingText, identifierOf, contentsText, allCodecsRight, inRange, valueText, octetsOf}
 use Rattle.octets.proofs.CaseLaws.{by-eq, by-lt, by-le}
 use Rattle.bat.proofs.WalkLaws.{size-small, size-low, front-within, front-size, front-length, front-nil, walk-ended, walk-unframed, walk-first, by-front}
-use Rattle.bat.proofs.RoundTrip.{and-both, settledCodecs, settledLasting, settled}
+use Rattle.bat.proofs.RoundTrip.{settledCodecs, settledLasting, settled}
 
 -- ---- lengths
 -- `sizeText` is the shortest: no length field of as great a number is shorter.
@@ -92,7 +92,7 @@ unfolding isSingle allCodecsRight settledCodecs codecsText
 codecs-first s e t cs p is k =
     let c = meant (e .compatibility) in
     let x = codecText (codecOf (e .contents)) in
-    let (five, right) = and-both (eqb (e .identifier) 5) (rightCodec (codecOf (e .contents))) is in
+    let (five, right) = and-eq-true-iff (eqb (e .identifier) 5) (rightCodec (codecOf (e .contents))) .0 is in
     let l = elementText-whole s e t p 5 c x (length-codecOf (e .contents) right) in
     record {
       ranges = rw right (k .ranges);
@@ -171,7 +171,7 @@ kept-lasting : (k : Kind) (d : ℕ) (t : List ℕ) (v : Value) (f : Front) → f
 unfolding onFront lastBy isDuration settledLasting lastingText
 kept-lasting k d t v (first e u) p =
     decoded-if (isDuration e) (Inner d) (λ is. decoded-if (eqb (length u) 0) (Inner (d + length (whole e))) (λ last q.
-    let (named, two) = and-both (eqb (e .identifier) 15) (eqb (length (e .contents)) 2) is in
+    let (named, two) = and-eq-true-iff (eqb (e .identifier) 15) (eqb (length (e .contents)) 2) .0 is in
     let c = meant (e .compatibility) in
     let l = elementText-whole t e u p 15 c (wordText (wordOf (e .contents))) (omega (arith, eqb-true)) in
     (lastingOf e, record { settles = lt-ltb c 128 (omega arith); shrinks = omega (arith, front-length t e u p) }, q)))
@@ -182,8 +182,8 @@ kept-signal : (s : List ℕ) (f : Front) (v : Value) → front s ≡ f → onFro
 unfolding onFront signalBy timedBy isType rightType identifierOf inRange settled contentsText
 kept-signal s (first e t) v p =
     decoded-if (isType e) (Inner 0) (λ is q.
-    let (named, right) = and-both (eqb (e .identifier) 14) (rightType (e .contents)) is in
-    let (one, known) = and-both (eqb (length (e .contents)) 1) (isSignal (octet 0 (e .contents))) right in
+    let (named, right) = and-eq-true-iff (eqb (e .identifier) 14) (rightType (e .contents)) .0 is in
+    let (one, known) = and-eq-true-iff (eqb (length (e .contents)) 1) (isSignal (octet 0 (e .contents))) .0 right in
     let c = meant (e .compatibility) in
     let x = octet 0 (e .contents) ∷ [] in
     let (l, k, same) = kept-lasting (kindOf e) (length (whole e)) t v (front t) refl q in
@@ -211,7 +211,7 @@ reading-kept i s v small =
     (kept-or 11 (kept-signal s (front s) v refl)
     (kept-or 12 (decoded-if (eqb (suc (unmarked s)) (length s)) Itself (λ ends. kept-as (capability (bit1 (octet 0 s))) refl refl refl (omega (arith, eqb-true))))
     (kept-or 13 (decoded-if (rightIndicators s) Itself (λ r. kept-as (indicators s) refl r refl all))
-    (kept-or 14 (decoded-if (rightType s) Itself (λ r. let (one, known) = and-both (eqb (length s) 1) (isSignal (octet 0 s)) r in kept-as (signalType (octet 0 s)) refl known refl (omega (arith, eqb-true))))
+    (kept-or 14 (decoded-if (rightType s) Itself (λ r. let (one, known) = and-eq-true-iff (eqb (length s) 1) (isSignal (octet 0 s)) .0 r in kept-as (signalType (octet 0 s)) refl known refl (omega (arith, eqb-true))))
     (kept-or 15 (decoded-if (eqb (length s) 2) Itself (λ two. kept-as (duration (wordOf s)) refl refl refl (omega (arith, eqb-true))))
     decoded-never))))))))))))))
 

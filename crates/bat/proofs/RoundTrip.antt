@@ -4,7 +4,7 @@
 use Prim.Native.Nat.{ℕ, suc, _+_, _*_, _/_, _%_, _≤_, _<_}
 use mathlib.Core.Path.{_≡_, refl, _∙_}
 use mathlib.Core.List.{List, [], _∷_, _++_, append-nil, append-assoc}
-use mathlib.Core.Bool.{Bool, true, false, _&&_}
+use mathlib.Core.Bool.{Bool, true, false, _&&_, and-eq-true-iff}
 use mathlib.Core.Option.{some, Option·elim}
 use lib.ListN.{length, length-append}
 use lib.Seq.{take-append-seam, drop-append-seam}
@@ -64,10 +64,6 @@ length-elementText i c s =
 meant-marked : (c : ℕ) → c < 128 → meant (128 + c) ≡ c
 meant-marked c h = omega arith
 
-pub and-both : (a b : Bool) → (a && b) ≡ true → (a ≡ true) × (b ≡ true)
-and-both true b p = (refl, p)
-and-both false b p = absurd (let z : _≡_ {A = ℕ} 0 1 = cc in omega arith)
-
 -- ---- inner compatibility
 -- The compatibility bits of a constructor's inner elements are seven, as they are read.
 unfoldable pub settledCodecs : List ListedCodec → Bool
@@ -103,8 +99,8 @@ walk-codecsText [] d r s h = walk-ended codecThen offence (allCodecs []) d [] fr
 walk-codecsText (c ∷ cs) d r s h =
     let x = codecText (c .codec) in
     let e = elementOf 5 (c .compatibility) x in
-    let (right, rights) = and-both (rightCodec (c .codec)) (allCodecsRight cs) r in
-    let (small, smalls) = and-both (ltb (c .compatibility) 128) (settledCodecs cs) s in
+    let (right, rights) = and-eq-true-iff (rightCodec (c .codec)) (allCodecsRight cs) .0 r in
+    let (small, smalls) = and-eq-true-iff (ltb (c .compatibility) 128) (settledCodecs cs) .0 s in
     let m : meant (128 + c .compatibility) ≡ c .compatibility = meant-marked (c .compatibility) (ltb-true _ _ small) in
     let l = length-append (elementText 5 (c .compatibility) x) (codecsText cs) in
     let k = length-elementText 5 (c .compatibility) x in
@@ -140,7 +136,7 @@ unfolding signalIn signalBy onFront isType rightType settled
 signalIn-elementText k t r s =
     let c = k .compatibility in
     let x = k .kind ∷ [] in
-    let (small, last) = and-both (ltb c 128) (settledLasting t) s in
+    let (small, last) = and-eq-true-iff (ltb c 128) (settledLasting t) .0 s in
     rw (front-elementText 14 c x (lastingText t) (omega arith), r, meant-marked c (ltb-true _ _ small)) (timedBy-lastingText k (length (whole (elementOf 14 c x))) t last)
 
 -- all kinds
@@ -150,7 +146,7 @@ reading-contentsText (action n) r s h = rw r
 reading-contentsText (backbone t) r s h = rw r
 reading-contentsText (address t) r s h = rw r
 reading-contentsText (codecs cs) r s h =
-    let (one, rights) = and-both (leb 1 (length cs)) (allCodecsRight cs) r in
+    let (one, rights) = and-eq-true-iff (leb 1 (length cs)) (allCodecsRight cs) .0 r in
     codecListIn-codecsText cs (leb-true _ _ one) rights s h
 reading-contentsText (single c) r s h = rw r
 reading-contentsText (report n ds) r s h = rw (diagnosticsIn-diagnosticsText ds)
@@ -159,7 +155,7 @@ reading-contentsText (control t) r s h = rw r
 reading-contentsText (tunnelling true) r s h = refl
 reading-contentsText (tunnelling false) r s h = refl
 reading-contentsText (controlUnit n l) r s h =
-    let (small, one) = and-both (leb (length n) 255) (leb 1 (length l)) r in
+    let (small, one) = and-eq-true-iff (leb (length n) 255) (leb 1 (length l)) .0 r in
     let more = leb-true 1 (length l) one in
     rw (lt-ltb (length n) (length (n ++ l)) (omega (arith, length-append n l)), take-append-seam n l, drop-append-seam n l)
 reading-contentsText (signal k t) r s h = signalIn-elementText k t r s

@@ -3,7 +3,7 @@
 use Prim.Native.Nat.{ℕ}
 use mathlib.Core.Path.{_≡_, refl, sym, ap, _∙_}
 use mathlib.Core.List.{List}
-use mathlib.Core.Bool.{true, _&&_}
+use mathlib.Core.Bool.{true, _&&_, and-eq-true-iff}
 use mathlib.Core.Option.{Option, none, some, Option·map, Option·elim}
 use lib.ListN.{length, drop}
 use lib.Seq.{drop-append-seam}
@@ -23,7 +23,7 @@ use Rattle.bat.specs.Values.{Diagnostic, Value, report, decoded, reading, meant
 use Rattle.octets.specs.Puts.{Puts}
 use Rattle.bat.specs.Writing.{inRange, valueText, octetsOf, octetsIn}
 use Rattle.bat.specs.Meaning.{lastingIn, valueBy, allInside, valueIn}
-use Rattle.bat.proofs.RoundTrip.{and-both, settledLasting, settled, read-written}
+use Rattle.bat.proofs.RoundTrip.{settledLasting, settled, read-written}
 use Rattle.bat_write.specs.Texts.{listOf}
 use Rattle.bat_write.proofs.CodecLaws.{listed}
 
@@ -83,7 +83,7 @@ module _ (s : List ℕ) (v : ValuePlace) (c : ℕ) (l : List ℕ) (n : ℕ) (f :
       → Puts (some (valueText (meant c) w)) l (Octets n) f → WrittenBack s v c n f
   back-right w is h q p =
       let t = valueText (meant c) w in
-      let (right, short) = and-both (inRange w) (leb (length t) mostOctets) h in
+      let (right, short) = and-eq-true-iff (inRange w) (leb (length t) mostOctets) .0 h in
       let (count, leaves) = puts-some t l n f p in
       let rest = drop (length t) l in
       let back = read-written (meant c) w rest (omega arith) right q (leb-true _ _ short) in

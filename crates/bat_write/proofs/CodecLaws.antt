@@ -3,7 +3,7 @@
 use Prim.Native.Nat.{ℕ, _+_, _≤_, _<_}
 use mathlib.Core.Path.{_≡_, refl, sym, _∙_}
 use mathlib.Core.List.{List, [], _∷_, _++_}
-use mathlib.Core.Bool.{true, false, cond}
+use mathlib.Core.Bool.{true, false, cond, and-eq-true-iff}
 use mathlib.Core.Option.{some}
 use lib.ListN.{length, drop, drop-of-length-le}
 use lib.Seq.{drop-drop}
@@ -22,7 +22,7 @@ use Rattle.bat.specs.Writing.{elementText, codecText, codecsText, contentsText,
 use Rattle.bat.specs.Meaning.{elementIn, frontIn, WholeLength}
 use Rattle.bat.proofs.WalkLaws.{size-small, front-size, front-nil, walk-ended, walk-unframed, walk-first, fold-ended, fold-unframed, fold-first, by-front}
 use Rattle.bat.proofs.CountLaws.{frame-ended, frame-unframed, frame-first}
-use Rattle.bat.proofs.RoundTrip.{and-both, settledCodecs}
+use Rattle.bat.proofs.RoundTrip.{settledCodecs}
 use Rattle.bat_read.specs.declared.Offence.{Offence}
 use Rattle.bat_read.specs.declared.Offence.the-variants.{At, Nowhere}
 use Rattle.bat_read.specs.Examining.{offenceOf}
@@ -57,7 +57,7 @@ codec-text (b ∷ s) p = refl
 
 single-right : (e : Element) → isSingle e ≡ true → rightCodec (codecOf (e .contents)) ≡ true
 unfolding isSingle
-single-right e p = and-both (eqb (e .identifier) 5) (rightCodec (codecOf (e .contents))) p .1
+single-right e p = and-eq-true-iff (eqb (e .identifier) 5) (rightCodec (codecOf (e .contents))) .0 p .1
 
 -- s is the codecs cs: they are written as s is anew, each is right, the compatibility of each is seven bits, and there are some where s is not empty
 pub record Listed (s : List ℕ) (cs : List ListedCodec) : Type 0 where

@@ -3,7 +3,7 @@
 use Prim.Native.Nat.{ℕ, _+_, _≤_}
 use mathlib.Core.Path.{_≡_}
 use mathlib.Core.List.{List, [], _∷_, _++_}
-use mathlib.Core.Bool.{Bool, true, false, _&&_}
+use mathlib.Core.Bool.{Bool, true, false, _&&_, and-eq-true-iff}
 use lib.ListN.{length}
 use lib.Dec.{leb}
 use native.Mathlib.Omega.{arith}
@@ -22,7 +22,6 @@ use Rattle.bat.specs.declared.Value.the-variants.{Codecs as CodecsPlace, Report
 use Rattle.bat.specs.Values.{signal, meant}
 use Rattle.bat.specs.Writing.{elementText, wordText, lastingText, bitText, contentsText, inRange}
 use Rattle.bat.specs.Meaning.{kindIn, lastingIn, valueBy}
-use Rattle.bat.proofs.RoundTrip.{and-both}
 use Rattle.bat_write.specs.Texts.{codecsOf, reportOf, inRangeIn, contentsIn, codecsAnew}
 use Rattle.bat_write.proofs.CodecLaws.{codecs-text}
 
@@ -82,7 +81,7 @@ module _ (s : List ℕ) (v : ValuePlace) (h : inRangeIn (valueBy s v) ≡ true) 
   unfolding valueBy inRangeIn inRange
   unit-right n p t e q =
       let z : (leb (length (textOf s n)) 255 && leb 1 (length (textOf s p))) ≡ true = rw e at h in
-      rw q (leb-true _ _ (and-both (leb (length (textOf s n)) 255) (leb 1 (length (textOf s p))) z .0))
+      rw q (leb-true _ _ (and-eq-true-iff (leb (length (textOf s n)) 255) (leb 1 (length (textOf s p))) .0 z .0))
 
 -- a bit beside bit 8 is an octet
 pub marked-fits : (b : Bool) (k : ℕ) → k ≡ bitText b → Fits w8 (128 + k)

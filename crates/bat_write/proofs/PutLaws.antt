@@ -11,37 +11,38 @@ use Rattle.octets.specs.Append.{Appends}
 use Rattle.octets.proofs.PutsLaws.{puts-none, puts-short, puts-all}
 use Rattle.octets.proofs.CaseLaws.{by-lt}
 use Rattle.octets.specs.declared.Put.the-variants.{Octets, Refused as RefusedPut}
-use Rattle.octets.specs.Puts.{Puts}
+use Rattle.octets.specs.Puts.{bounded, Puts}
 use Rattle.bat.specs.Writing.{elementText}
-use Rattle.bat_write.specs.Texts.{bounded, elementLength}
+use Rattle.bat.specs.Framing.{mostOctets}
+use Rattle.bat_write.specs.Texts.{elementLength}
 use Rattle.bat_write.proofs.ElementLaws.{length-element}
 
 -- at most 2,048 octets in all are at most 2,044 of contents
-few-octets : (n : ℕ) → n ≤ 2044 → elementLength n ≤ 2048
+few-octets : (n : ℕ) → n ≤ 2044 → elementLength n ≤ mostOctets
 unfolding elementLength
 few-octets n h = by-lt n 127 _ (λ k. rw (lt-ltb n 127 k) (omega arith)) (λ k. rw (le-ltb n 127 k) (omega arith))
 
-many-octets : (n : ℕ) → 2044 < n → 2048 < elementLength n
+many-octets : (n : ℕ) → 2044 < n → mostOctets < elementLength n
 unfolding elementLength
 many-octets n h = rw (le-ltb n 127 (omega arith)) (omega arith)
 
 module _ (i c : ℕ) (s l : List ℕ) where
-  pub too-long : 2044 < length s → bounded (elementText i c s) ≡ none
+  pub too-long : 2044 < length s → bounded mostOctets (elementText i c s) ≡ none
   unfolding bounded
-  too-long h = rw (lt-leb (length (elementText i c s)) 2048 (omega (arith, length-element i c s, many-octets (length s) h)))
+  too-long h = rw (lt-leb (length (elementText i c s)) mostOctets (omega (arith, length-element i c s, many-octets (length s) h)))
 
-  not-long : length s ≤ 2044 → bounded (elementText i c s) ≡ some (elementText i c s)
+  not-long : length s ≤ 2044 → bounded mostOctets (elementText i c s) ≡ some (elementText i c s)
   unfolding bounded
-  not-long h = rw (le-leb (length (elementText i c s)) 2048 (omega (arith, length-element i c s, few-octets (length s) h)))
+  not-long h = rw (le-leb (length (elementText i c s)) mostOctets (omega (arith, length-element i c s, few-octets (length s) h)))
 
-  pub puts-long : 2044 < length s → Puts (bounded (elementText i c s)) l (RefusedPut 5) l
+  pub puts-long : 2044 < length s → Puts (bounded mostOctets (elementText i c s)) l (RefusedPut 5) l
   puts-long h = rw (too-long h) (puts-none l)
 
   module _ (w : ℕ) (e : w ≡ elementLength (length s)) (h : length s ≤ 2044) where
-    pub puts-little : length l < w → Puts (bounded (elementText i c s)) l (RefusedPut 4) l
+    pub puts-little : length l < w → Puts (bounded mostOctets (elementText i c s)) l (RefusedPut 4) l
     puts-little k = rw (not-long h) (puts-short (elementText i c s) l (omega (arith, length-element i c s)))
 
-    pub puts-whole : (r : ℕ) (f : List ℕ) → Appends l 0 (elementText i c s) r f → w ≤ length l → Puts (bounded (elementText i c s)) l (Octets w) f
+    pub puts-whole : (r : ℕ) (f : List ℕ) → Appends l 0 (elementText i c s) r f → w ≤ length l → Puts (bounded mostOctets (elementText i c s)) l (Octets w) f
     puts-whole r f p k =
         let t = elementText i c s in
         let n : length t ≡ w = length-element i c s ∙ sym e in

@@ -17,10 +17,11 @@ use Rattle.bat.specs.declared.Value.the-variants.{Action, Backbone, Address, Co
 use Rattle.octets.specs.declared.Put.{Put}
 use Rattle.octets.specs.declared.Put.the-variants.{Refused as RefusedPut}
 use Rattle.bat.specs.Values.{Diagnostic, Value, Codecs, allCodecs, offence, onCodecs, codecsIn, report, diagnosticsIn}
-use Rattle.octets.specs.Puts.{Puts}
+use Rattle.octets.specs.Puts.{bounded, Puts}
 use Rattle.bat.specs.Writing.{elementText, identifierOf, valueText, octetsOf, octetsIn}
 use Rattle.bat.specs.Meaning.{valueBy}
-use Rattle.bat_write.specs.Texts.{listOf, inRangeIn, contentsIn, codeOf, bounded}
+use Rattle.bat.specs.Framing.{mostOctets}
+use Rattle.bat_write.specs.Texts.{listOf, inRangeIn, contentsIn, codeOf}
 use Rattle.bat_write.proofs.PutLaws.{too-long}
 
 -- ---- the identifier
@@ -53,7 +54,7 @@ coded s (SignalType n) = refl
 coded s (Duration n) = refl
 
 -- ---- the octets
-octets-right : (c i : ℕ) (o : Option Value) → inRangeIn o ≡ true → Option·elim o i identifierOf ≡ i → octetsIn c o ≡ bounded (elementText i c (contentsIn o))
+octets-right : (c i : ℕ) (o : Option Value) → inRangeIn o ≡ true → Option·elim o i identifierOf ≡ i → octetsIn c o ≡ bounded mostOctets (elementText i c (contentsIn o))
 unfolding inRangeIn contentsIn octetsIn octetsOf valueText bounded Option·elim
 octets-right c i none p q = absurd (let z : _≡_ {A = ℕ} 0 1 = cc in omega arith)
 octets-right c i (some v) p q = rw (p, q)
@@ -64,19 +65,19 @@ octets-wrong c none p = refl
 octets-wrong c (some v) p = rw p
 
 -- what 2,048 octets hold of the contents tells as much of the element
-bounded-cut : (i c : ℕ) (s : List ℕ) → bounded (elementText i c (take 2048 s)) ≡ bounded (elementText i c s)
+bounded-cut : (i c : ℕ) (s : List ℕ) → bounded mostOctets (elementText i c (take mostOctets s)) ≡ bounded mostOctets (elementText i c s)
 bounded-cut i c s =
-    by-le (length s) 2048 _
-    (λ h. rw (take-all 2048 s h))
-    (λ h. too-long i c (take 2048 s) s (simp length-take (omega arith)) ∙ sym (too-long i c s s (omega arith)))
+    by-le (length s) mostOctets _
+    (λ h. rw (take-all mostOctets s h))
+    (λ h. too-long i c (take mostOctets s) s (simp length-take (omega arith)) ∙ sym (too-long i c s s (omega arith)))
 
 module _ (s l : List ℕ) (c : ℕ) (v : ValuePlace) (t : Bool) (is : t ≡ inRangeIn (valueBy s v)) where
   pub writes-none : t ≡ false → Puts (octetsIn c (valueBy s v)) l (RefusedPut 5) l
   writes-none e = rw (octets-wrong c (valueBy s v) (sym is ∙ e)) (puts-none l)
 
-  pub writes : (z g : List ℕ) (n i : ℕ) (r : Put) (f : List ℕ) → t ≡ true → Appends z 0 (contentsIn (valueBy s v)) n g → length z ≡ 2048 → i ≡ codeOf v
-      → Puts (bounded (elementText i c (take (n - 0) (drop 0 g)))) l r f → Puts (octetsIn c (valueBy s v)) l r f
+  pub writes : (z g : List ℕ) (n i : ℕ) (r : Put) (f : List ℕ) → t ≡ true → Appends z 0 (contentsIn (valueBy s v)) n g → length z ≡ mostOctets → i ≡ codeOf v
+      → Puts (bounded mostOctets (elementText i c (take (n - 0) (drop 0 g)))) l r f → Puts (octetsIn c (valueBy s v)) l r f
   writes z g n i r f e p h q a =
       let u = contentsIn (valueBy s v) in
-      let o : octetsIn c (valueBy s v) ≡ bounded (elementText (codeOf v) c u) = octets-right c (codeOf v) (valueBy s v) (sym is ∙ e) (coded s v) in
-      rw (o, ← q, ← bounded-cut i c u, ← scratch-text z g u n p 2048 h) a
+      let o : octetsIn c (valueBy s v) ≡ bounded mostOctets (elementText (codeOf v) c u) = octets-right c (codeOf v) (valueBy s v) (sym is ∙ e) (coded s v) in
+      rw (o, ← q, ← bounded-cut i c u, ← scratch-text z g u n p mostOctets h) a

@@ -4,11 +4,10 @@ use Prim.Native.Nat.{ℕ, _+_}
 use mathlib.Core.List.{List, [], _++_}
 use mathlib.Core.Bool.{Bool, false, cond}
 use mathlib.Core.Option.{Option, none, some, Option·map}
-use lib.ListN.{length}
-use lib.Dec.{leb, ltb}
+use lib.Dec.{ltb}
 use Rattle.bat.specs.declared.Value.{Value as ValuePlace}
 use Rattle.bat.specs.declared.Value.the-variants.{Action, Backbone, Address, Codecs as CodecsPlace, Single, Report, Characteristics, Control, Tunnelling, Unit as UnitPlace, Signal, Capability, Indicators, SignalType, Duration}
-use Rattle.bat.specs.Framing.{fold, mostOctets}
+use Rattle.bat.specs.Framing.{fold}
 use Rattle.bat.specs.Values.{Value, codecs, Codecs, codecsIn, onCodecs, report, diagnosticsIn, meant}
 use Rattle.bat.specs.Writing.{elementText, contentsText, inRange}
 
@@ -55,10 +54,6 @@ codeOf (Duration n) = 15
 -- The elements of s, each written anew as a single codec: with the shortest length and one compatibility octet.
 unfoldable pub codecsAnew : List ℕ → List ℕ
 codecsAnew s = fold (λ e t. elementText 5 (meant (e .compatibility)) (e .contents) ++ t) [] [] s
-
--- the octets of an element, where they are not too many
-unfoldable pub bounded : List ℕ → Option (List ℕ)
-bounded t = cond (leb (length t) mostOctets) (some t) none
 
 -- how many octets an element with n octets of contents has
 unfoldable pub elementLength : ℕ → ℕ

@@ -4,17 +4,18 @@ mod element;
 mod ranges;
 
 ghost use mathlib.Core.Path.{_≡_};
+ghost use Rattle.bat.specs.Framing.{mostOctets};
 ghost use Rattle.bat.specs.Values.{meant};
-ghost use Rattle.octets.specs.Puts.{Puts};
+ghost use Rattle.octets.specs.Puts.{bounded, Puts};
 ghost use Rattle.bat.specs.Writing.{elementText, octetsIn};
 ghost use Rattle.bat.specs.Meaning.{valueBy, valueIn};
-ghost use Rattle.bat_write.specs.Texts.{bounded, codeOf};
+ghost use Rattle.bat_write.specs.Texts.{codeOf};
 use bat::MOST_OCTETS;
 use bat::Value;
 use octets::Put;
 
 // The most octets of contents: an identifier, two octets of length and one of compatibility stand before them.
-const MOST_CONTENTS: usize = 2044;
+const MOST_CONTENTS: usize = MOST_OCTETS - 4;
 
 // The identifier of a value's element.
 fn identifier(value: Value) -> u8
@@ -50,7 +51,7 @@ fn identifier(value: Value) -> u8
 
 // Writes the element with these contents at the front of out.
 fn put_element(identifier: u8, compatibility: u8, contents: &[u8], out: &mut [u8]) -> Put
-    ensures { λ r. ⌜ Puts (bounded (elementText identifier (meant compatibility) (now (contents .entry)))) (now (out .entry)) r (now (out .exit)) ⌝ }
+    ensures { λ r. ⌜ Puts (bounded mostOctets (elementText identifier (meant compatibility) (now (contents .entry)))) (now (out .entry)) r (now (out .exit)) ⌝ }
 {
     let n = contents.len();
     if MOST_CONTENTS < n {

@@ -16,50 +16,47 @@ use Rattle.octets.specs.Words.{begins, same}
 use Rattle.octets.proofs.CaseLaws.{by-eq, by-lt}
 use Rattle.sdp.specs.Lines.{isPlain, allPlain}
 use Rattle.address.specs.Kinds.{isUnicast}
-use Rattle.media.specs.Stream.{Stream, attributeText, rtpmapText, rtpmapLines, fmtpLines, octetsTogether, attributesFit}
+use Rattle.media.specs.Stream.{Stream, attributeText, rtpmapText, rtpmapLines, fmtpLines, octetsTogether, attributesFit, mostAttributes}
 use Rattle.ipbcp.specs.declared.Kind.{Kind}
 use Rattle.ipbcp.specs.Reading.{described, readMessage}
 use Rattle.ipbcp.specs.Writing.{request, accepted, confused, rejected, messageText, isToken, allTextsPlain, rightMedia, rightAttributes, rightContent, octetsOf}
 use Rattle.ipbcp.proofs.WrittenLaws.{media-parts, attribute-parts}
 use Rattle.ipbcp.proofs.Lengths.{number-few, voice}
 use Rattle.ipbcp.proofs.ReadRange.{read-right, content-octets}
-use Rattle.configuration.specs.Configuration.{Codec, fixed, named, Configuration, between, allVisible, rightCodec, allRight, rightTimes, rightCodecs, rightGeneral, rightConfiguration, entryIn, suits, nameOf, namedIn, noneOrInRange}
+use Rattle.configuration.specs.Configuration.{Codec, fixed, named, Configuration, between, allVisible, rightCodec, allRight, rightTimes, rightCodecs, rightGeneral, rightConfiguration, entryIn, suits, nameOf, namedIn, noneOrInRange, mostName}
 use Rattle.bearer.specs.Bearer.{Bearer}
 use Rattle.bearer.specs.Judging.{audio, rtpAvp, sameFamily, offered, commanded, unmoved, rightStream, rightRequest, nearest, restated, answerTo}
-
-both : (a b : Bool) → (a && b) ≡ true → (a ≡ true) × (b ≡ true)
-both a b h = let k = and-eq-true-iff a b .0 h in (k .0, k .1)
 
 -- ---- codec entries
 visible-plain : (t : List ℕ) → allVisible t ≡ true → allPlain t ≡ true
 unfolding allVisible allPlain isPlain
 visible-plain [] h = refl
 visible-plain (b ∷ bs) h =
-    let (p, q) = both (between 33 126 b) (allVisible bs) h in
-    let low = leb-true 33 b (both (leb 33 b) (leb b 126) p .0) in
+    let (p, q) = and-eq-true-iff (between 33 126 b) (allVisible bs) .0 h in
+    let low = leb-true 33 b (and-eq-true-iff (leb 33 b) (leb b 126) .0 p .0) in
     rw (ne-eqb b 0 (λ e. omega arith), ne-eqb b 13 (λ e. omega arith), ne-eqb b 10 (λ e. omega arith)) (visible-plain bs q)
 
-name-right : (k : Codec) → rightCodec k ≡ true → (allPlain (nameOf k) ≡ true) × (length (nameOf k) ≤ 32)
+name-right : (k : Codec) → rightCodec k ≡ true → (allPlain (nameOf k) ≡ true) × (length (nameOf k) ≤ mostName)
 unfolding rightCodec nameOf allPlain
 name-right (fixed n) h = (refl, omega arith)
 name-right (named t) h =
-    let (p, q) = both (between 1 32 (length t)) (allVisible t) h in
-    (visible-plain t q, leb-true (length t) 32 (both (leb 1 (length t)) (leb (length t) 32) p .1))
+    let (p, q) = and-eq-true-iff (between 1 mostName (length t)) (allVisible t) .0 h in
+    (visible-plain t q, leb-true (length t) mostName (and-eq-true-iff (leb 1 (length t)) (leb (length t) mostName) .0 p .1))
 
 payload-most : (k : Codec) (payload : ℕ) → rightCodec k ≡ true → suits k payload ≡ true → payload ≤ 127
 unfolding rightCodec suits
 payload-most (fixed n) payload h s = omega (arith, leb-true n 95 h, eqb-true payload n s)
-payload-most (named t) payload h s = leb-true payload 127 (both (leb 96 payload) (leb payload 127) s .1)
+payload-most (named t) payload h s = leb-true payload 127 (and-eq-true-iff (leb 96 payload) (leb payload 127) .0 s .1)
 
 entry-right : (ks : List Codec) (n : ℕ) (k : Codec) → allRight ks ≡ true → entryIn ks n ≡ some k → rightCodec k ≡ true
 unfolding allRight entryIn
 entry-right ks zero k r e = absurd (Option·none-ne-some k e)
 entry-right [] (suc n) k r e = absurd (Option·none-ne-some k e)
-entry-right (j ∷ ks) (suc zero) k r e = let same : j ≡ k = cc in ap rightCodec (sym same) ∙ both (rightCodec j) (allRight ks) r .0
-entry-right (j ∷ ks) (suc (suc n)) k r e = entry-right ks (suc n) k (both (rightCodec j) (allRight ks) r .1) e
+entry-right (j ∷ ks) (suc zero) k r e = let same : j ≡ k = cc in ap rightCodec (sym same) ∙ and-eq-true-iff (rightCodec j) (allRight ks) .0 r .0
+entry-right (j ∷ ks) (suc (suc n)) k r e = entry-right ks (suc n) k (and-eq-true-iff (rightCodec j) (allRight ks) .0 r .1) e
 
 -- the rtpmap line of an entry is short
-rtpmap-few : (payload : ℕ) (t : List ℕ) → payload ≤ 127 → length t ≤ 32 → length (rtpmapText payload t) ≤ 45
+rtpmap-few : (payload : ℕ) (t : List ℕ) → payload ≤ 127 → length t ≤ mostName → length (rtpmapText payload t) ≤ 45
 unfolding rtpmapText attributeText
 rtpmap-few payload t p l =
     let a = length-append (numberText payload) (32 ∷ t) in
@@ -70,35 +67,35 @@ rtpmap-few payload t p l =
 module _ (c : Configuration) (h : rightConfiguration c ≡ true) where
   general : rightGeneral c ≡ true
   unfolding rightConfiguration
-  general = both (rightGeneral c) _ h .0
+  general = and-eq-true-iff (rightGeneral c) _ .0 h .0
 
   pub own-unicast : isUnicast (c .own) ≡ true
   unfolding rightGeneral
-  own-unicast = both (isUnicast (c .own)) _ general .0
+  own-unicast = and-eq-true-iff (isUnicast (c .own)) _ .0 general .0
 
   rest : (between 1 65535 (c .port) && (rightTimes (c .least) (c .most) && (between 1 30 (c .t1) && between 1 30 (c .t2)))) ≡ true
   unfolding rightGeneral
-  rest = both (isUnicast (c .own)) _ general .1
+  rest = and-eq-true-iff (isUnicast (c .own)) _ .0 general .1
 
   own-port : (1 ≤ c .port) × (c .port ≤ 65535)
   own-port =
-      let a = both (between 1 65535 (c .port)) _ rest .0 in
-      let b = both (leb 1 (c .port)) (leb (c .port) 65535) a in
+      let a = and-eq-true-iff (between 1 65535 (c .port)) _ .0 rest .0 in
+      let b = and-eq-true-iff (leb 1 (c .port)) (leb (c .port) 65535) .0 a in
       (leb-true 1 (c .port) (b .0), leb-true (c .port) 65535 (b .1))
 
   times : (c .least ≤ c .most) × (c .most ≤ 255)
   unfolding rightTimes
   times =
-      let a = both (rightTimes (c .least) (c .most)) _ (both (between 1 65535 (c .port)) _ rest .1) .0 in
-      let b = both (leb 1 (c .least)) (leb (c .least) (c .most) && leb (c .most) 255) a .1 in
-      let d = both (leb (c .least) (c .most)) (leb (c .most) 255) b in
+      let a = and-eq-true-iff (rightTimes (c .least) (c .most)) _ .0 (and-eq-true-iff (between 1 65535 (c .port)) _ .0 rest .1) .0 in
+      let b = and-eq-true-iff (leb 1 (c .least)) (leb (c .least) (c .most) && leb (c .most) 255) .0 a .1 in
+      let d = and-eq-true-iff (leb (c .least) (c .most)) (leb (c .most) 255) .0 b in
       (leb-true (c .least) (c .most) (d .0), leb-true (c .most) 255 (d .1))
 
   codecs-right : allRight (c .codecs) ≡ true
   unfolding rightConfiguration rightCodecs
   codecs-right =
-      let a = both (rightGeneral c) (rightCodecs (c .codecs)) h .1 in
-      both (between 1 8 (length (c .codecs))) (allRight (c .codecs)) a .1
+      let a = and-eq-true-iff (rightGeneral c) (rightCodecs (c .codecs)) .0 h .1 in
+      and-eq-true-iff (between 1 8 (length (c .codecs))) (allRight (c .codecs)) .0 a .1
 
   -- a packet time that is moved into range is one
   nearest-most : (n : ℕ) → nearest c n ≤ 255
@@ -120,7 +117,7 @@ module _ (c : Configuration) (h : rightConfiguration c ≡ true) where
       let (least, most) = times in
       by-eq n 0 _ (λ z. omega arith)
       (λ z. let k : (leb (c .least) n && leb n (c .most)) ≡ true = rw (ne-eqb n 0 z) at e in
-      let l = leb-true n (c .most) (both (leb (c .least) n) (leb n (c .most)) k .1) in omega arith)
+      let l = leb-true n (c .most) (and-eq-true-iff (leb (c .least) n) (leb n (c .most)) .0 k .1) in omega arith)
 
   -- ---- Confused and Rejected
   pub confused-octets : octetsOf (c .own) confused ≡ some (messageText (c .own) confused)
@@ -145,7 +142,7 @@ module _ (c : Configuration) (h : rightConfiguration c ≡ true) where
         let few = rtpmap-few payload (nameOf k) (payload-most k payload right suit) (name-right k right .1) in
         by-eq (length (nameOf k)) 0 _
         (λ e. rw (eq-eqb (length (nameOf k)) 0 e))
-        (λ e. rw (ne-eqb (length (nameOf k)) 0 e) (le-leb (length (rtpmapText payload (nameOf k)) + 0) 256 (omega arith)))
+        (λ e. rw (ne-eqb (length (nameOf k)) 0 e) (le-leb (length (rtpmapText payload (nameOf k)) + 0) mostAttributes (omega arith)))
 
     offered-attributes : rightAttributes (offered c k payload ptime) ≡ true
     unfolding rightAttributes offered allTextsPlain
@@ -164,7 +161,7 @@ module _ (c : Configuration) (h : rightConfiguration c ≡ true) where
       picked : (k : Codec) (t : Bool) → (suits k payload && noneOrInRange c ptime) ≡ t → rightCodec k ≡ true
           → cond t (some (offered c k payload ptime)) none ≡ some q → octetsOf (c .own) (request q) ≡ some (messageText (c .own) (request q))
       picked k true p r e =
-          let (s, t) = both (suits k payload) (noneOrInRange c ptime) p in
+          let (s, t) = and-eq-true-iff (suits k payload) (noneOrInRange c ptime) .0 p in
           let same : offered c k payload ptime ≡ q = cc in
           subst (λ (x : Stream). octetsOf (c .own) (request x) ≡ some (messageText (c .own) (request x))) same (offered-octets k payload ptime r s t)
       picked k false p r e = absurd (Option·none-ne-some q e)
@@ -189,18 +186,18 @@ module _ (c : Configuration) (h : rightConfiguration c ≡ true) where
     answer-attributes =
         let (r, f, p, _, l) = attribute-parts (d .stream) attributes in
         rw (r, le-leb (length (d .stream .fmtp)) 3 f, p, le-leb (nearest c (d .stream .ptime)) 255 (nearest-most (d .stream .ptime)))
-        (le-leb (octetsTogether (rtpmapLines (d .stream) ++ fmtpLines (d .stream))) 256 l)
+        (le-leb (octetsTogether (rtpmapLines (d .stream) ++ fmtpLines (d .stream))) mostAttributes l)
 
   same-length : (w s : List ℕ) → same w s ≡ true → length s ≡ length w
   unfolding same
-  same-length w s e = eqb-true (length s) (length w) (both (eqb (length s) (length w)) (begins w s) e .0)
+  same-length w s e = eqb-true (length s) (length w) (and-eq-true-iff (eqb (length s) (length w)) (begins w s) .0 e .0)
 
   request-short : (f : Option Bearer) (d : Bearer) → rightRequest c f d ≡ true → length (d .stream .media) + length (d .stream .transport) ≤ 12
   unfolding rightRequest rightStream
   request-short f d e =
-      let a = both (rightStream c (d .stream)) (unmoved f d) (both (sameFamily (c .own) (d .address)) (rightStream c (d .stream) && unmoved f d) e .1) .0 in
-      let (m, b) = both (same audio (d .stream .media)) (same rtpAvp (d .stream .transport) && namedIn (c .codecs) (d .stream .payload) (d .stream .rtpmap)) a in
-      let t = both (same rtpAvp (d .stream .transport)) (namedIn (c .codecs) (d .stream .payload) (d .stream .rtpmap)) b .0 in
+      let a = and-eq-true-iff (rightStream c (d .stream)) (unmoved f d) .0 (and-eq-true-iff (sameFamily (c .own) (d .address)) (rightStream c (d .stream) && unmoved f d) .0 e .1) .0 in
+      let (m, b) = and-eq-true-iff (same audio (d .stream .media)) (same rtpAvp (d .stream .transport) && namedIn (c .codecs) (d .stream .payload) (d .stream .rtpmap)) .0 a in
+      let t = and-eq-true-iff (same rtpAvp (d .stream .transport)) (namedIn (c .codecs) (d .stream .payload) (d .stream .rtpmap)) .0 b .0 in
       omega (arith, same-length audio (d .stream .media) m, same-length rtpAvp (d .stream .transport) t)
 
   -- the message m names d by a Request that is right

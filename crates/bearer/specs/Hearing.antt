@@ -10,7 +10,7 @@ use Rattle.ipbcp.specs.declared.Kind.the-variants as kind
 use Rattle.ipbcp.specs.declared.Head.{Head}
 use Rattle.ipbcp.specs.declared.Head.the-variants.{Typed, Untyped}
 use Rattle.ipbcp.specs.Types.{headIn}
-use Rattle.ipbcp.specs.Reading.{Reading, refused, typed, described, mostOctets, readMessage}
+use Rattle.ipbcp.specs.Reading.{Reading, refused, typed, described, mostRead, readMessage}
 use Rattle.bearer.specs.Bearer.{Bearer}
 
 pub data Heard : Type 0 where
@@ -39,4 +39,4 @@ heardBy (Typed version kind.Confused) r = declined
 heardBy (Typed version kind.Rejected) r = declined
 
 unfoldable pub heard : List ℕ → Heard
-heard m = cond (leb (length m) mostOctets) (heardBy (headIn m) (readMessage m)) unreadable
+heard m = cond (leb (length m) mostRead) (heardBy (headIn m) (readMessage m)) unreadable

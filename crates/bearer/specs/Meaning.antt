@@ -10,7 +10,7 @@ use Rattle.address.specs.declared.Address.{Address}
 use Rattle.media.specs.declared.Stream.{Stream as Places}
 use Rattle.media.specs.Stream.{Stream}
 use Rattle.media.specs.Meaning.{streamBy, streamInside, streamIn}
-use Rattle.ipbcp.specs.Reading.{mostOctets}
+use Rattle.ipbcp.specs.Reading.{mostRead}
 use Rattle.bearer.specs.declared.Request.{Request}
 use Rattle.bearer.specs.declared.Bearer as held
 use Rattle.bearer.specs.declared.Heard as taken
@@ -46,7 +46,7 @@ heardIn m is.Declined = some declined
 
 -- a bearer with the octets of m, as far as there is room, and zeros behind them
 abbrev pub heldAs : Address → Places → List ℕ → held.Bearer
-heldAs a s m = record { address = a; stream = s; text = appended (replicate mostOctets 0) 0 m }
+heldAs a s m = record { address = a; stream = s; text = appended (replicate mostRead 0) 0 m }
 
 -- the bearer in force, where one is
 abbrev pub heldIf : Bool → Bearer → Option Bearer

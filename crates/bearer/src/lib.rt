@@ -3,12 +3,13 @@
 ghost use mathlib.Core.Path.{_≡_};
 ghost use Rattle.bearer.specs.Meaning.{heldAs, placesAs};
 use address::Address;
-use ipbcp::MOST_OCTETS;
+use configuration::MOST_NAME;
+use ipbcp::MOST_READ;
 use media::Stream;
 use octets::append::push;
 
-// Room for the media, the transport and an encoding name.
-pub const MOST_OFFERED: usize = 44;
+// Room for "audio", "RTP/AVP" and an encoding name.
+pub const MOST_OFFERED: usize = 12 + MOST_NAME;
 
 // A Request of ours.
 pub struct Request {
@@ -20,7 +21,7 @@ pub struct Request {
 pub struct Bearer {
     pub address: Address,
     pub stream: Stream,
-    pub text: [u8; MOST_OCTETS],
+    pub text: [u8; MOST_READ],
 }
 
 // What a message is to an endpoint. The texts of a stream are places in the message.
@@ -43,7 +44,7 @@ pub enum Heard {
 pub fn hold(address: Address, stream: Stream, m: &[u8]) -> Bearer
     ensures { λ r. ⌜ r ≡ heldAs address stream (now (m .entry)) ⌝ }
 {
-    let mut text = [0u8; MOST_OCTETS];
+    let mut text = [0u8; MOST_READ];
     push(m, &mut text, 0);
     Bearer {
         address,

@@ -12,7 +12,7 @@ use Rattle.octets.specs.Append.{Appends}
 use Rattle.octets.proofs.AppendLaws.{append-nil}
 use Rattle.configuration.specs.declared.Format.{Format}
 use Rattle.configuration.specs.declared.Format.the-variants.{Payload, Named}
-use Rattle.configuration.specs.Configuration.{between, allVisible, rightCodec, suits, nameOf, names}
+use Rattle.configuration.specs.Configuration.{between, allVisible, rightCodec, suits, nameOf, names, mostName}
 use Rattle.configuration.specs.Meaning.{formatBy, formatInside}
 
 -- ---- a payload
@@ -47,9 +47,9 @@ module _ (f : Format) (name : List ℕ) (n : ℕ) (q : f ≡ Named n) where
   unfolding formatBy names
   names-low p t h = rw (q, lt-leb 96 p h)
 
-  pub right-long : 32 < n → false ≡ (formatInside f && rightCodec (formatBy f name))
+  pub right-long : mostName < n → false ≡ (formatInside f && rightCodec (formatBy f name))
   unfolding formatInside
-  right-long h = rw (q, lt-leb n 32 h)
+  right-long h = rw (q, lt-leb n mostName h)
 
   module _ (s : List ℕ) (e : s ≡ take n name) where
     pub names-named : (p : ℕ) (t : List ℕ) (r : Bool) → 96 ≤ p → r ≡ same s t → r ≡ names (formatBy f name) p t
@@ -60,8 +60,8 @@ module _ (f : Format) (name : List ℕ) (n : ℕ) (q : f ≡ Named n) where
     unfolding formatBy nameOf
     nameOf-named l g at r p = rw (q, ← e) p
 
-    pub right-named : (r : Bool) → n ≤ 32 → r ≡ (between 1 32 (length s) && allVisible s) → r ≡ (formatInside f && rightCodec (formatBy f name))
+    pub right-named : (r : Bool) → n ≤ mostName → r ≡ (between 1 mostName (length s) && allVisible s) → r ≡ (formatInside f && rightCodec (formatBy f name))
     unfolding formatBy formatInside rightCodec
-    right-named r h p = rw (q, le-leb n 32 h, ← e) p
+    right-named r h p = rw (q, le-leb n mostName h, ← e) p
 
 pub ruleset formats = (suits-fixed, names-fixed, nameOf-fixed, right-fixed, suits-low, suits-named, names-low, right-long, names-named, nameOf-named, right-named)

@@ -86,8 +86,8 @@ unfoldable pub nameOf : Codec → List ℕ
 nameOf (fixed n) = []
 nameOf (named t) = t
 
--- a message's payload and rtpmap text name the entry: 96 to 127, which a message does not pass, by a text that is the name in
--- every octet
+-- A message names a fixed entry by its payload, and a named one by a payload from 96 on (a message has none over 127) and an
+-- rtpmap text that is the name in every octet.
 unfoldable pub names : Codec → ℕ → List ℕ → Bool
 names (fixed n) payload text = eqb payload n
 names (named t) payload text = leb 96 payload && same t text

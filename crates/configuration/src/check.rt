@@ -2,7 +2,7 @@
 ghost use mathlib.Core.Path.{_≡_};
 ghost use mathlib.Core.Bool.{_&&_};
 ghost use lib.ListN.{length};
-ghost use Rattle.configuration.specs.Configuration.{between, allVisible, rightCodec, rightTimes, rightCodecs, rightGeneral};
+ghost use Rattle.configuration.specs.Configuration.{between, mostName, allVisible, rightCodec, rightTimes, rightCodecs, rightGeneral};
 ghost use Rattle.configuration.specs.Meaning.{codecBy, codecsBy, configurationBy, formatInside, configInside, checked};
 use crate::Checked;
 use crate::Codec;
@@ -40,7 +40,7 @@ fn all_visible(s: &[u8]) -> bool
 
 // s can be an encoding name.
 fn right_name(s: &[u8]) -> bool
-    ensures { λ r. ⌜ r ≡ (between 1 32 (length (now (s .entry))) && allVisible (now (s .entry))) ⌝ }
+    ensures { λ r. ⌜ r ≡ (between 1 mostName (length (now (s .entry))) && allVisible (now (s .entry))) ⌝ }
 {
     if s.len() < 1 {
         return false;
@@ -91,7 +91,7 @@ fn right_codecs(c: Config) -> bool
     true
 }
 
-// The range of packet times is one.
+// The packet times are a range: 1 or more, least not above most.
 fn right_times(least: u8, most: u8) -> bool
     ensures { λ r. ⌜ r ≡ rightTimes least most ⌝ }
 {

@@ -1,7 +1,7 @@
 // The codec entries of a configuration.
 ghost use mathlib.Core.Path.{_≡_};
 ghost use Rattle.octets.specs.Append.{Appends};
-ghost use Rattle.configuration.specs.Configuration.{suits, nameOf, names, namedIn, entryIn};
+ghost use Rattle.configuration.specs.Configuration.{fixed, suits, nameOf, names, namedIn, entryIn};
 ghost use Rattle.configuration.specs.Meaning.{codecBy, codecsBy, entryBy};
 ghost use Rattle.configuration.specs.Steps.{Counted};
 use crate::Codec;
@@ -9,6 +9,7 @@ use crate::Config;
 use crate::Entry;
 use crate::Format;
 use crate::MOST_CODECS;
+use crate::MOST_NAME;
 use octets::append::push;
 use octets::spans::up_to;
 use octets::words::equals;
@@ -69,7 +70,7 @@ fn entries(c: Config) -> usize
     n
 }
 
-// They name one of the entries.
+// A message's payload and rtpmap text name one of the entries.
 pub fn names_any(c: Config, payload: u8, text: &[u8]) -> bool
     ensures { λ r. ⌜ r ≡ namedIn (codecsBy c) payload (now (text .entry)) ⌝ }
 {
@@ -109,8 +110,10 @@ pub fn entry_at(c: Config, n: u16) -> Entry
 }
 
 // An entry that says nothing.
-fn blank() -> Codec {
-    let name = [0u8; 32];
+pub fn blank() -> Codec
+    ensures { λ r. ⌜ codecBy r ≡ fixed 0 ⌝ }
+{
+    let name = [0u8; MOST_NAME];
     Codec {
         format: Format::Payload(0),
         name,

@@ -28,8 +28,10 @@ pub struct Codec {
 pub struct Config {
     pub own: Address,
     pub port: u16,
+    // The packet times in range, in milliseconds.
     pub least: u8,
     pub most: u8,
+    // The timers, in seconds.
     pub t1: u8,
     pub t2: u8,
     pub count: usize,

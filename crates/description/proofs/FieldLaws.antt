@@ -19,11 +19,11 @@ use Rattle.description.specs.Meaning.{draftBy, stepBy}
 -- The value of the line is v, which the code has as t; r is what the code made of it.
 module _ (m v : List ℕ) (d : DraftPlaces) (letter : ℕ) where
   module _ (t : List ℕ) (at : t ≡ v) (r : Step) where
-    pub field-v : letter ≡ 118 → (w : Bool) → w ≡ same (48 ∷ []) t → ((z : List ℕ) → stepBy z r ≡ needed 0 1 w (draftBy z d)) → stepBy m r ≡ fieldOf (draftBy m d) letter v
+    pub field-v : letter ≡ 118 → (w : Bool) → w ≡ same (48 ∷ []) t → ((z : List ℕ) → stepBy z r ≡ needed 0 w (draftBy z d)) → stepBy m r ≡ fieldOf (draftBy m d) letter v
     unfolding fieldOf versionLine
     field-v e w p q = rw (e, ← at, ← p) (q m)
 
-    pub field-o : letter ≡ 111 → (w : Bool) → w ≡ isOrigin t → ((z : List ℕ) → stepBy z r ≡ needed 1 2 w (draftBy z d)) → stepBy m r ≡ fieldOf (draftBy m d) letter v
+    pub field-o : letter ≡ 111 → (w : Bool) → w ≡ isOrigin t → ((z : List ℕ) → stepBy z r ≡ needed 1 w (draftBy z d)) → stepBy m r ≡ fieldOf (draftBy m d) letter v
     unfolding fieldOf originLine
     field-o e w p q = rw (e, ← at, ← p) (q m)
 
@@ -31,12 +31,12 @@ module _ (m v : List ℕ) (d : DraftPlaces) (letter : ℕ) where
     unfolding fieldOf
     field-c e q = rw (e, ← at) (q m)
 
-    pub field-t : letter ≡ 116 → (w : Bool) → w ≡ isTime t → ((z : List ℕ) → stepBy z r ≡ needed 4 5 w (draftBy z d)) → stepBy m r ≡ fieldOf (draftBy m d) letter v
+    pub field-t : letter ≡ 116 → (w : Bool) → w ≡ isTime t → ((z : List ℕ) → stepBy z r ≡ needed 4 w (draftBy z d)) → stepBy m r ≡ fieldOf (draftBy m d) letter v
     unfolding fieldOf timeLine
     field-t e w p q = rw (e, ← at, ← p) (q m)
 
   module _ (r : Step) where
-    pub field-s : letter ≡ 115 → ((z : List ℕ) → stepBy z r ≡ needed 2 3 true (draftBy z d)) → stepBy m r ≡ fieldOf (draftBy m d) letter v
+    pub field-s : letter ≡ 115 → ((z : List ℕ) → stepBy z r ≡ needed 2 true (draftBy z d)) → stepBy m r ≡ fieldOf (draftBy m d) letter v
     unfolding fieldOf sessionLine
     field-s e q = rw e (q m)
 

@@ -13,20 +13,29 @@ use Rattle.octets.specs.Split.{has, before, findAt, Found}
 use Rattle.octets.proofs.CaseLaws.{by-bool}
 use Rattle.octets.proofs.SplitLaws.{has-before, has-not}
 use Rattle.octets.specs.Words.{begins, same, digitRun}
+use Rattle.octets.specs.Spans.{textOf}
 use Rattle.texts.specs.Tokens.{token, tokenCount}
 use Rattle.texts.proofs.TokenLaws.{tokens-are, tokens-arent}
 use Rattle.address.specs.declared.Parsed.{Parsed}
 use Rattle.address.specs.declared.Parsed.the-variants.{Unreadable}
+use Rattle.address.specs.declared.Address.the-variants.{V4}
 use Rattle.media.specs.declared.Stream.{Stream as Places}
 use Rattle.media.specs.declared.Taken.{Taken}
 use Rattle.media.specs.declared.Taken.the-variants.{Stream as TakenStream, Wrong as TakenWrong}
 use Rattle.media.specs.Attributes.{mediaOf, isAttribute, attributeOf}
-use Rattle.media.specs.Meaning.{streamBy, takenBy}
+use Rattle.media.specs.Meaning.{streamBy, takenBy, barePlaces}
+use Rattle.media.proofs.LineLaws.{bare-says}
 use Rattle.description.specs.declared.Draft.{Draft as DraftPlaces}
 use Rattle.description.specs.declared.Step.{Step}
 use Rattle.description.specs.declared.Step.the-variants.{Go, Wrong}
-use Rattle.description.specs.Draft.{needed, inWord, ip4Word, ip6Word, isOrigin, addressOf, connectionOf, isTime, ipbcpWord, ipbcpLine, withStream, mediaLine, attributeLine}
+use Rattle.description.specs.Draft.{needed, inWord, ip4Word, ip6Word, isOrigin, addressOf, connectionOf, isTime, ipbcpWord, ipbcpLine, withStream, mediaLine, attributeLine, start}
 use Rattle.description.specs.Meaning.{draftBy, stepBy}
+
+-- ---- before the first line
+pub start-is : (y : Places) → y ≡ barePlaces (record { at = 0; len = 0 }) 0 (record { at = 0; len = 0 }) 0
+    → (m : List ℕ) → draftBy m (record { had = 0; address = V4 0; stream = y }) ≡ start
+unfolding start draftBy textOf
+start-is y e m = rw (e, bare-says m (record { at = 0; len = 0 }) (record { at = 0; len = 0 }) 0 0)
 
 -- ---- a word or a run of digits that the code tested: t says what was found of the k-th token a
 module _ (k : ℕ) (v a : List ℕ) (at : a ≡ token k v) (t : Bool) where
@@ -116,7 +125,7 @@ module _ (m v : List ℕ) (d : DraftPlaces) where
   media-is h x p r q = rw (eq-eqb (d .had) 6 h, ← p) (q m)
 
   module _ (a : List ℕ) (at : a ≡ v) (t : Bool) (is : t ≡ begins ipbcpWord a) where
-    pub attribute-ipbcp : t ≡ true → (r : Step) → ((z : List ℕ) → stepBy z r ≡ needed 5 6 true (draftBy z d)) → stepBy m r ≡ attributeLine (draftBy m d) v
+    pub attribute-ipbcp : t ≡ true → (r : Step) → ((z : List ℕ) → stepBy z r ≡ needed 5 true (draftBy z d)) → stepBy m r ≡ attributeLine (draftBy m d) v
     unfolding attributeLine ipbcpLine
     attribute-ipbcp e r q = let f : begins ipbcpWord v ≡ true = rw (← at) (sym is ∙ e) in rw f (q m)
 

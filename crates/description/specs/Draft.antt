@@ -1,6 +1,6 @@
 -- Document 01, "Message, version 1": what a Request or Accepted says, line by line. A draft is what the lines so far have
--- said; each line makes a draft of it, or is wrong (number 10).
-use Prim.Native.Nat.{ℕ}
+-- said; each line makes the next draft, or is wrong (number 10).
+use Prim.Native.Nat.{ℕ, _+_}
 use mathlib.Core.List.{List, [], _∷_}
 use mathlib.Core.Bool.{Bool, true, _&&_, _||_, cond}
 use mathlib.Core.Option.{Option, none, some, Option·map}
@@ -35,12 +35,12 @@ unfoldable pub reached : ℕ → Draft → Draft
 reached n d = record { had = n; address = d .address; stream = d .stream }
 
 -- the needed line behind n others, if it is right
-unfoldable pub needed : ℕ → ℕ → Bool → Draft → Option Draft
-needed n next right d = cond (eqb (d .had) n) (cond right (some (reached next d)) none) none
+unfoldable pub needed : ℕ → Bool → Draft → Option Draft
+needed n right d = cond (eqb (d .had) n) (cond right (some (reached (n + 1) d)) none) none
 
 -- `v=0`
 unfoldable pub versionLine : Draft → List ℕ → Option Draft
-versionLine d v = needed 0 1 (same (48 ∷ []) v) d
+versionLine d v = needed 0 (same (48 ∷ []) v) d
 
 -- "IN", "IP4" and "IP6"
 abbrev pub inWord : List ℕ
@@ -57,11 +57,11 @@ unfoldable pub isOrigin : List ℕ → Bool
 isOrigin v = eqb (tokenCount v) 6 && (same inWord (token 3 v) && (same ip4Word (token 4 v) || same ip6Word (token 4 v)))
 
 unfoldable pub originLine : Draft → List ℕ → Option Draft
-originLine d v = needed 1 2 (isOrigin v) d
+originLine d v = needed 1 (isOrigin v) d
 
 -- `s=` says nothing
 unfoldable pub sessionLine : Draft → Option Draft
-sessionLine d = needed 2 3 true d
+sessionLine d = needed 2 true d
 
 -- an address of the family that the word names
 unfoldable pub addressOf : List ℕ → List ℕ → Parsed
@@ -82,11 +82,11 @@ unfoldable pub isTime : List ℕ → Bool
 isTime v = eqb (tokenCount v) 2 && (digitRun (token 0 v) && digitRun (token 1 v))
 
 unfoldable pub timeLine : Draft → List ℕ → Option Draft
-timeLine d v = needed 4 5 (isTime v) d
+timeLine d v = needed 4 (isTime v) d
 
 -- The ipbcp line. Behind five others it can only be the first such, from which version and type were read (number 9).
 unfoldable pub ipbcpLine : Draft → Option Draft
-ipbcpLine d = needed 5 6 true d
+ipbcpLine d = needed 5 true d
 
 unfoldable pub withStream : Draft → Stream → Draft
 withStream d s = record { had = 7; address = d .address; stream = s }

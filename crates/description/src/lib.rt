@@ -9,7 +9,6 @@ ghost use Rattle.description.specs.Draft.{start, fieldOf, lineOf};
 ghost use Rattle.description.specs.Meaning.{draftBy, stepBy};
 use address::Address;
 use media::Stream;
-use media::Texts;
 use octets::Span;
 use octets::spans::text;
 use octets::words::equals;
@@ -36,20 +35,7 @@ pub fn start() -> Draft
     Draft {
         had: 0,
         address: Address::V4(0),
-        stream: Stream {
-            media: none,
-            port: 0,
-            transport: none,
-            payload: 0,
-            rtpmap: none,
-            fmtp: Texts {
-                count: 0,
-                first: none,
-                second: none,
-                third: none,
-            },
-            ptime: 0,
-        },
+        stream: media::bare(none, 0, none, 0),
     }
 }
 
@@ -59,19 +45,19 @@ fn read_field(d: Draft, m: &[u8], letter: u8, v: Span) -> Step
 {
     let t = text(m, v);
     if letter == b'v' {
-        return lines::needed(d, 0, 1, equals(b"0", t));
+        return lines::needed(d, 0, equals(b"0", t));
     }
     if letter == b'o' {
-        return lines::needed(d, 1, 2, lines::is_origin(t));
+        return lines::needed(d, 1, lines::is_origin(t));
     }
     if letter == b's' {
-        return lines::needed(d, 2, 3, true);
+        return lines::needed(d, 2, true);
     }
     if letter == b'c' {
         return lines::connection_line(d, t);
     }
     if letter == b't' {
-        return lines::needed(d, 4, 5, lines::is_time(t));
+        return lines::needed(d, 4, lines::is_time(t));
     }
     if letter == b'm' {
         return lines::media_line(d, m, v);

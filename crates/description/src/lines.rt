@@ -2,7 +2,7 @@
 ghost use mathlib.Core.Path.{_≡_};
 ghost use mathlib.Core.List.{List};
 ghost use mathlib.Core.Option.{Option·map};
-ghost use Prim.Native.Nat.{ℕ};
+ghost use Prim.Native.Nat.{ℕ, _<_};
 ghost use Rattle.octets.specs.Spans.{textOf};
 ghost use Rattle.octets.specs.Split.{has};
 ghost use Rattle.media.specs.Meaning.{takenBy};
@@ -24,8 +24,9 @@ use octets::words::starts;
 use texts::count_tokens;
 
 // The needed line behind n others, if it is right.
-pub(crate) fn needed(d: Draft, n: u8, next: u8, right: bool) -> Step
-    ensures { λ r. ⌜ ((m : List ℕ) → stepBy m r ≡ needed n next right (draftBy m d)) ⌝ }
+pub(crate) fn needed(d: Draft, n: u8, right: bool) -> Step
+    requires { ⌜ n < 7 ⌝ }
+    ensures { λ r. ⌜ ((m : List ℕ) → stepBy m r ≡ needed n right (draftBy m d)) ⌝ }
 {
     let had = d.had;
     if had != n {
@@ -33,7 +34,7 @@ pub(crate) fn needed(d: Draft, n: u8, next: u8, right: bool) -> Step
     }
     if right {
         let mut more = d;
-        more.had = next;
+        more.had = n + 1;
         return Step::Go(more);
     }
     Step::Wrong
@@ -82,6 +83,7 @@ fn connection_of(t: &[u8]) -> Parsed
     Parsed::Unreadable
 }
 
+// The draft d with the line `c=` of t.
 pub(crate) fn connection_line(d: Draft, t: &[u8]) -> Step
     ensures { λ r. ⌜ ((m : List ℕ) → stepBy m r ≡ connectionLine (draftBy m d) (now (t .entry))) ⌝ }
 {
@@ -130,6 +132,7 @@ fn take_stream(d: Draft, x: Taken) -> Step
     }
 }
 
+// The draft d with the line `m=`, whose text is that of v in m.
 pub(crate) fn media_line(d: Draft, m: &[u8], v: Span) -> Step
     ensures { λ r. ⌜ stepBy (now (m .entry)) r ≡ mediaLine (draftBy (now (m .entry)) d) (textOf (now (m .entry)) v) ⌝ }
 {
@@ -140,12 +143,13 @@ pub(crate) fn media_line(d: Draft, m: &[u8], v: Span) -> Step
     take_stream(d, media::read_media(m, v))
 }
 
+// The draft d with a line `a=`, whose text is that of v in m.
 pub(crate) fn attribute_line(d: Draft, m: &[u8], v: Span) -> Step
     ensures { λ r. ⌜ stepBy (now (m .entry)) r ≡ attributeLine (draftBy (now (m .entry)) d) (textOf (now (m .entry)) v) ⌝ }
 {
     let a = text(m, v);
     if starts(b"ipbcp:", a) {
-        return needed(d, 5, 6, true);
+        return needed(d, 5, true);
     }
     if media::is_attribute(a) {
         let had = d.had;

@@ -22,7 +22,7 @@ use Rattle.ipbcp.specs.declared.Kind.the-variants as kind
 use Rattle.ipbcp.specs.declared.Head.{Head}
 use Rattle.ipbcp.specs.declared.Head.the-variants.{Typed, Untyped}
 use Rattle.ipbcp.specs.Types.{headIn}
-use Rattle.ipbcp.specs.Reading.{Reading, typed, described, readMessage, mostOctets}
+use Rattle.ipbcp.specs.Reading.{Reading, typed, described, readMessage, mostRead}
 use Rattle.ipbcp.specs.Reading as reading
 use Rattle.ipbcp.specs.Writing as writing
 use Rattle.ipbcp.specs.Writing.{messageText}
@@ -87,9 +87,9 @@ gave-ruled self e xs ys r v did l p =
     subst (λ (w : Verdict). Gave self w xs ys r) (ap (λ (t : Bool). cond t (refused 4) (ruled (configurationBy (self .config)) (bookOf self) e)) (le-ltb (length xs) leastRoom l) ∙ p) did
 
 -- ---- demand 2: an Accepted puts its bearer in force exactly when it is right
-heard-accepted : (m : List ℕ) (version : ℕ) → length m ≤ mostOctets → headIn m ≡ Typed version kind.Accepted → heard m ≡ hears.accepted (bearerIn (readMessage m))
+heard-accepted : (m : List ℕ) (version : ℕ) → length m ≤ mostRead → headIn m ≡ Typed version kind.Accepted → heard m ≡ hears.accepted (bearerIn (readMessage m))
 unfolding heard heardBy
-heard-accepted m version l h = rw (le-leb (length m) mostOctets l, h)
+heard-accepted m version l h = rw (le-leb (length m) mostRead l, h)
 
 module _ (c : Configuration) (f : Option Bearer) (q : Stream) where
   taking-right : (o : Option Bearer) (d : Bearer) → o ≡ some d → rightIn (rightAccepted c f q) o ≡ true → taking c f q o ≡ agreed d
@@ -102,7 +102,7 @@ module _ (c : Configuration) (f : Option Bearer) (q : Stream) where
 
 -- m is an Accepted of any version, not too long, and comes while our Request q is open, with a buffer that is long enough
 pub accepted-exactly : (self : Endpoint) (q : Stream) (m xs ys : List ℕ) (version : ℕ) (r : Answer) → Did self (Event.message m) xs ys r
-    → leastRoom ≤ length xs → length m ≤ mostOctets → headIn m ≡ Typed version kind.Accepted → awaited (bookOf self) ≡ some q → Takes self q m xs ys r
+    → leastRoom ≤ length xs → length m ≤ mostRead → headIn m ≡ Typed version kind.Accepted → awaited (bookOf self) ≡ some q → Takes self q m xs ys r
 accepted-exactly self q m xs ys version r did room short head awaits =
     record {
       right = λ d e h. let g = gave (agreed d) (taking-right c (settled (bookOf self)) q (bearerIn (readMessage m)) d e h) in (g .book, g .reply, g .out);
@@ -124,7 +124,7 @@ discards self xs ys r g = record { endpoint = g .unaltered; reply = g .reply; ou
 
 -- where no Request of ours is open, it is discarded
 pub accepted-unawaited : (self : Endpoint) (m xs ys : List ℕ) (version : ℕ) (r : Answer) → Did self (Event.message m) xs ys r
-    → leastRoom ≤ length xs → length m ≤ mostOctets → headIn m ≡ Typed version kind.Accepted → awaited (bookOf self) ≡ none → Discards self xs ys r
+    → leastRoom ≤ length xs → length m ≤ mostRead → headIn m ≡ Typed version kind.Accepted → awaited (bookOf self) ≡ none → Discards self xs ys r
 accepted-unawaited self m xs ys version r did room short head unawaited =
     discards self xs ys r
     (gave-ruled self (Event.message m) xs ys r discarded did room
@@ -132,9 +132,9 @@ accepted-unawaited self m xs ys version r did room short head unawaited =
     ∙ ap (λ (o : Option Stream). answering o (λ x. taking (configurationBy (self .config)) (settled (bookOf self)) x (bearerIn (readMessage m)))) unawaited))
 
 -- ---- demand 2: a peer's Request is accepted exactly when it is right
-heard-request : (m : List ℕ) → length m ≤ mostOctets → headIn m ≡ Typed 1 kind.Request → heard m ≡ hears.request (bearerIn (readMessage m))
+heard-request : (m : List ℕ) → length m ≤ mostRead → headIn m ≡ Typed 1 kind.Request → heard m ≡ hears.request (bearerIn (readMessage m))
 unfolding heard heardBy
-heard-request m l h = rw (le-leb (length m) mostOctets l, h)
+heard-request m l h = rw (le-leb (length m) mostRead l, h)
 
 described-named : (x : Reading) (d : Bearer) → bearerIn x ≡ some d → (k : kinds.Kind) × (x ≡ described k (d .address) (d .stream))
 unfolding bearerIn
@@ -168,7 +168,7 @@ module _ (c : Configuration) (right : rightConfiguration c ≡ true) where
 -- m is a Request of version 1, not too long, and comes where Requests are not discarded, with a buffer that is long enough, to an
 -- endpoint whose configuration is not refused
 pub request-exactly : (self : Endpoint) (m xs ys : List ℕ) (r : Answer) → rightConfig (self .config) ≡ true → Did self (Event.message m) xs ys r
-    → leastRoom ≤ length xs → length m ≤ mostOctets → headIn m ≡ Typed 1 kind.Request → ignores (bookOf self) ≡ false → Judges self m xs ys r
+    → leastRoom ≤ length xs → length m ≤ mostRead → headIn m ≡ Typed 1 kind.Request → ignores (bookOf self) ≡ false → Judges self m xs ys r
 unfolding configurationBy
 request-exactly self m xs ys r config did room short head heeds =
     record {
@@ -191,13 +191,13 @@ request-exactly self m xs ys r config did room short head heeds =
         ∙ p)
 
 -- one of another version is heard as such
-heard-other : (m : List ℕ) (version : ℕ) → length m ≤ mostOctets → headIn m ≡ Typed version kind.Request → (version ≡ 1 → ⊥) → heard m ≡ hears.otherRequest
+heard-other : (m : List ℕ) (version : ℕ) → length m ≤ mostRead → headIn m ≡ Typed version kind.Request → (version ≡ 1 → ⊥) → heard m ≡ hears.otherRequest
 unfolding heard heardBy
-heard-other m version l h n = rw (le-leb (length m) mostOctets l, h, ne-eqb version 1 n)
+heard-other m version l h n = rw (le-leb (length m) mostRead l, h, ne-eqb version 1 n)
 
 -- it is answered Confused, where Requests are not discarded
 pub request-confused : (self : Endpoint) (m xs ys : List ℕ) (version : ℕ) (r : Answer) → rightConfig (self .config) ≡ true → Did self (Event.message m) xs ys r
-    → leastRoom ≤ length xs → length m ≤ mostOctets → headIn m ≡ Typed version kind.Request → (version ≡ 1 → ⊥) → ignores (bookOf self) ≡ false → Confuses self xs ys r
+    → leastRoom ≤ length xs → length m ≤ mostRead → headIn m ≡ Typed version kind.Request → (version ≡ 1 → ⊥) → ignores (bookOf self) ≡ false → Confuses self xs ys r
 unfolding configurationBy
 request-confused self m xs ys version r config did room short head other heeds =
     let c = configurationBy (self .config) in
@@ -210,7 +210,7 @@ request-confused self m xs ys version r config did room short head other heeds =
 
 -- and any Request is discarded while our set-up is awaited, and at I while our change is
 pub request-ignored : (self : Endpoint) (m xs ys : List ℕ) (version : ℕ) (r : Answer) → Did self (Event.message m) xs ys r
-    → leastRoom ≤ length xs → length m ≤ mostOctets → headIn m ≡ Typed version kind.Request → ignores (bookOf self) ≡ true → Discards self xs ys r
+    → leastRoom ≤ length xs → length m ≤ mostRead → headIn m ≡ Typed version kind.Request → ignores (bookOf self) ≡ true → Discards self xs ys r
 request-ignored self m xs ys version r did room short head ignored =
     discards self xs ys r
     (gave-ruled self (Event.message m) xs ys r discarded did room
@@ -237,7 +237,7 @@ Answered (rejected o) = Unit {0}
 request-names : (m : List ℕ) (d : Option Bearer) → heard m ≡ hears.request d → d ≡ bearerIn (readMessage m)
 unfolding heard heardBy
 request-names m d e =
-    by-bool (leb (length m) mostOctets) _
+    by-bool (leb (length m) mostRead) _
     (λ l. go (headIn m) (rw l at e))
     (λ l. let w : hears.unreadable ≡ hears.request d = rw l at e in absurd (let z : _≡_ {A = ℕ} 0 1 = cc in omega arith))
   where

@@ -5,6 +5,9 @@ use Prim.Native.Nat.{ℕ}
 use mathlib.Core.Path.{_≡_, refl, _∙_, ap}
 use mathlib.Core.Bool.{Bool, true, false}
 use mathlib.Core.List.{List}
+use lib.ListN.{length}
+use native.Mathlib.Omega.{arith}
+use borrow.Author.Tests.{le-leb}
 use Rattle.book.specs.declared.State.{State}
 use Rattle.book.specs.declared.State.the-variants.{Idle, AwaitSetup, Up, AwaitChange}
 use Rattle.book.specs.declared.Side.{Side}
@@ -16,7 +19,7 @@ use Rattle.book.specs.Book.{closed, opening, settling, stateOf, settled, ignore
 use Rattle.book.specs.States.{closedState, openedState, settledSide, byState, holdsAt, dropsAt, ignoresAt}
 use Rattle.media.specs.declared.Stream.{Stream as Places}
 use Rattle.media.specs.Stream.{Stream}
-use Rattle.media.specs.Meaning.{streamInside}
+use Rattle.media.specs.Meaning.{barePlaces, spansOf, allIn, streamInside}
 use Rattle.address.specs.declared.Address.{Address}
 use Rattle.configuration.specs.declared.Config.{Config}
 use Rattle.configuration.specs.declared.Checked.{Checked}
@@ -163,6 +166,10 @@ module _ (self : Endpoint) where
   gave-rejected w e s d p q h o xs l = record { config = h .config; book = h .book; reply = cc (after-close, dropped); out = refl; unaltered = tt; inside = h .inside }
 
 -- ---- a fresh endpoint, whose streams s say nothing
+pub blank-inside : (s : Places) → s ≡ barePlaces (record { at = 0; len = 0 }) 0 (record { at = 0; len = 0 }) 0 → (m : List ℕ) → streamInside m s ≡ true
+unfolding spansOf allIn streamInside
+blank-inside s e m = rw (e, le-leb 0 (length m) (omega arith))
+
 pub opens : (c : Config) (x : Checked) (i : Side) (a : Address) (s : Places) (xs ys : List ℕ) → x ≡ checked c → ((m : List ℕ) → streamInside m s ≡ true)
     → Opens c (record { checked = x; endpoint = record { config = c; state = Idle; side = i; request = record { stream = s; text = xs }; bearer = record { address = a; stream = s; text = ys } } })
 opens c x i a s xs ys e h = record { checked = e; config = refl; idle = refl; inside = record { request = h xs; bearer = h ys } }

@@ -13,7 +13,7 @@ use Rattle.book.specs.Book as told
 use Rattle.media.specs.declared.Stream.{Stream as Places}
 use Rattle.media.specs.Stream.{Stream}
 use Rattle.media.specs.Meaning.{streamBy, streamIn}
-use Rattle.ipbcp.specs.Reading.{mostOctets}
+use Rattle.ipbcp.specs.Reading.{mostRead}
 use Rattle.configuration.specs.Meaning.{configurationBy}
 use Rattle.bearer.specs.declared.Request.{Request}
 use Rattle.bearer.specs.Bearer.{Bearer}
@@ -96,7 +96,7 @@ Did self e before after r =
 
 -- For the private functions: the message m is one that is read, and the texts of the stream s lie inside it.
 pub record Readable (m : List ℕ) (s : Places) : Type 0 where
-  pub short : length m ≤ mostOctets
+  pub short : length m ≤ mostRead
   pub inside : streamIn m s ≡ some (streamBy m s)
 
 -- the same, and the output buffer is long enough

@@ -21,9 +21,8 @@ use book::State;
 use configuration::Checked;
 use configuration::Config;
 use configuration::check::check;
-use ipbcp::MOST_OCTETS;
+use ipbcp::MOST_READ;
 use media::Stream;
-use media::Texts;
 use octets::Span;
 
 // The shortest output buffer that an event can be given.
@@ -79,20 +78,7 @@ fn blank_stream() -> Stream
     ensures { λ r. ⌜ ((m : List ℕ) → streamInside m r ≡ true) ⌝ }
 {
     let none = Span { at: 0, len: 0 };
-    Stream {
-        media: none,
-        port: 0,
-        transport: none,
-        payload: 0,
-        rtpmap: none,
-        fmtp: Texts {
-            count: 0,
-            first: none,
-            second: none,
-            third: none,
-        },
-        ptime: 0,
-    }
+    media::bare(none, 0, none, 0)
 }
 
 impl Endpoint {
@@ -102,7 +88,7 @@ impl Endpoint {
     {
         let stream = blank_stream();
         let offered = [0u8; MOST_OFFERED];
-        let text = [0u8; MOST_OCTETS];
+        let text = [0u8; MOST_READ];
         let checked = check(config);
         Opening {
             checked,

@@ -17,11 +17,12 @@ use Rattle.address.specs.declared.Address.{Address}
 use Rattle.address.specs.declared.Address.the-variants.{V4, V6}
 use Rattle.address.proofs.Lengths.{length-address}
 use Rattle.media.specs.Stream.{Stream, mediaText, ptimeWord, attributeText, ptimeText, rtpmapLines, fmtpText, fmtpLines, octetsTogether}
+use Rattle.media.proofs.LimitLaws.{together-append}
 use Rattle.ipbcp.specs.declared.Kind.{Kind}
 use Rattle.ipbcp.specs.declared.Kind.the-variants.{Request, Accepted, Confused, Rejected}
 use Rattle.ipbcp.specs.Types.{wordOf}
-use Rattle.ipbcp.specs.Writing.{Content, request, accepted, confused, rejected, familyWord, hostText, versionText, originText, sessionText, connectionText, timeText, ipbcpText, ptimeLines, streamLines, kindIn, mediaLines, messageLines, messageText, rightMedia, rightAttributes, rightContent}
-use Rattle.ipbcp.proofs.WrittenLaws.{media-parts, attribute-parts, together-append}
+use Rattle.ipbcp.specs.Writing.{Content, request, accepted, confused, rejected, familyWord, hostText, versionText, originText, sessionText, connectionText, timeText, ipbcpText, ptimeLines, streamLines, kindIn, mediaLines, messageLines, messageText, rightMedia, rightAttributes, rightContent, mostWritten}
+use Rattle.ipbcp.proofs.WrittenLaws.{media-parts, attribute-parts}
 
 -- ---- numbers
 width-few : (k e n : ℕ) → n < 10 ^ suc k → widthFrom e n ≤ suc k
@@ -126,7 +127,7 @@ unfolding linesText
 length-bare own k = omega (arith, length-opening own k [])
 
 pub length-described : (own : Address) (k : Kind) (s : Stream) → rightMedia s ≡ true → rightAttributes s ≡ true → length (s .media) + length (s .transport) ≤ 12
-    → length (linesText (versionText ∷ originText own ∷ sessionText ∷ connectionText own ∷ timeText ∷ ipbcpText k ∷ streamLines s)) ≤ 447
+    → length (linesText (versionText ∷ originText own ∷ sessionText ∷ connectionText own ∷ timeText ∷ ipbcpText k ∷ streamLines s)) ≤ mostWritten
 length-described own k s h j l = omega (arith, length-opening own k (streamLines s), length-stream s h j l)
 
 -- media and transport of what is written, if it has a media line, have at most twelve octets together
@@ -136,7 +137,7 @@ voice (accepted s) = length (s .media) + length (s .transport) ≤ 12
 voice confused = 0 ≤ 0
 voice rejected = 0 ≤ 0
 
-pub length-message : (own : Address) (c : Content) → rightContent c ≡ true → voice c → length (messageText own c) ≤ 447
+pub length-message : (own : Address) (c : Content) → rightContent c ≡ true → voice c → length (messageText own c) ≤ mostWritten
 unfolding messageText messageLines mediaLines kindIn rightContent voice
 length-message own (request s) h v = let a = and-eq-true-iff (rightMedia s) (rightAttributes s) .0 h in length-described own Request s (a .0) (a .1) v
 length-message own (accepted s) h v = let a = and-eq-true-iff (rightMedia s) (rightAttributes s) .0 h in length-described own Accepted s (a .0) (a .1) v

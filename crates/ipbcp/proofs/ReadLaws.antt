@@ -29,7 +29,7 @@ use Rattle.ipbcp.specs.declared.Head.the-variants.{Typed, Untyped}
 use Rattle.ipbcp.specs.declared.Message.{Message}
 use Rattle.ipbcp.specs.declared.Message.the-variants as answer
 use Rattle.ipbcp.specs.Types.{headIn}
-use Rattle.ipbcp.specs.Reading.{linesOf, finish, isDescribed, byHead, readMessage}
+use Rattle.ipbcp.specs.Reading.{linesOf, finish, isDescribed, byHead, readMessage, mostRead}
 use Rattle.ipbcp.specs.Meaning.{readingIn}
 
 -- ---- a type that the code has matched
@@ -88,14 +88,14 @@ pub ruleset finishing = (finish-wrong, finish-few, finish-all)
 
 -- ---- the whole message; y is its version and type
 module _ (m : List ℕ) where
-  pub read-long : 512 < length m → readingIn m (answer.Refused 8) ≡ some (readMessage m)
+  pub read-long : mostRead < length m → readingIn m (answer.Refused 8) ≡ some (readMessage m)
   unfolding readingIn readMessage
-  read-long h = rw (lt-leb (length m) 512 h)
+  read-long h = rw (lt-leb (length m) mostRead h)
 
-  module _ (short : length m ≤ 512) (y : Head) (is : y ≡ headIn m) where
+  module _ (short : length m ≤ mostRead) (y : Head) (is : y ≡ headIn m) where
     by-length : (r : Message) (x : Head) → y ≡ x → readingIn m r ≡ some (byHead m x) → readingIn m r ≡ some (readMessage m)
     unfolding readMessage
-    by-length r x e p = rw (le-leb (length m) 512 short, ← is, e) p
+    by-length r x e p = rw (le-leb (length m) mostRead short, ← is, e) p
 
     pub read-untyped : y ≡ Untyped → readingIn m (answer.Refused 9) ≡ some (readMessage m)
     unfolding readingIn byHead

@@ -18,19 +18,20 @@ use Rattle.octets.specs.Words.{begins, same}
 use Rattle.octets.proofs.CaseLaws.{by-eq, by-bool}
 use Rattle.texts.specs.Tokens.{token, noneEmpty, tokenCount, behindBlank}
 use Rattle.sdp.specs.Lines.{lines, allEnded, isPlain, allPlain, isLine, allLines, inLines}
+use Rattle.sdp.proofs.PlainLaws.{plain-parts}
 use Rattle.address.specs.declared.Address.{Address}
 use Rattle.address.specs.declared.Parsed.{Parsed}
 use Rattle.address.specs.declared.Parsed.the-variants.{Unicast, Unreadable}
 use Rattle.address.specs.Kinds.{isUnicast, onParsed}
-use Rattle.media.specs.Stream.{Stream, bareStream, rtpmapWord, fmtpWord, ptimeWord, rtpmapLines, fmtpLines, octetsTogether, attributesFit}
+use Rattle.media.specs.Stream.{Stream, bareStream, rtpmapWord, fmtpWord, ptimeWord, rtpmapLines, fmtpLines, octetsTogether, attributesFit, mostAttributes}
 use Rattle.media.specs.Attributes.{mediaOf, fitting, withRtpmap, withFmtp, withPtime, rtpmapOf, fmtpOf, ptimeOf, isAttribute, attributeOf}
 use Rattle.description.specs.Draft.{Draft, start, reached, needed, versionLine, isOrigin, originLine, sessionLine, connectionOf, withAddress, connectionLine, isTime, timeLine, ipbcpLine, withStream, mediaLine, ipbcpWord, attributeLine, skippedLetters, fieldOf, lineOf}
 use Rattle.ipbcp.specs.declared.Kind.{Kind}
 use Rattle.ipbcp.specs.declared.Head.{Head}
 use Rattle.ipbcp.specs.declared.Head.the-variants.{Typed, Untyped}
 use Rattle.ipbcp.specs.Types.{headIn}
-use Rattle.ipbcp.specs.Reading.{refused, typed, described, linesOf, finish, isDescribed, byHead, readMessage}
-use Rattle.ipbcp.specs.Writing.{Content, messageText, isToken, allTextsPlain, rightMedia, rightAttributes, rightContent, octetsOf}
+use Rattle.ipbcp.specs.Reading.{refused, typed, described, linesOf, finish, isDescribed, byHead, readMessage, mostRead}
+use Rattle.ipbcp.specs.Writing.{Content, messageText, isToken, allTextsPlain, rightMedia, rightAttributes, rightContent, octetsOf, mostWritten}
 use Rattle.ipbcp.proofs.ReadLaws.{read-lined}
 use Rattle.ipbcp.proofs.WrittenLaws.{attribute-parts}
 use Rattle.ipbcp.proofs.Lengths.{voice, length-message}
@@ -77,10 +78,6 @@ every-elim P Q (some x) go p q = q x p
 plain-nil : allPlain [] ≡ true
 unfolding allPlain
 plain-nil = refl
-
-plain-parts : (b : ℕ) (bs : List ℕ) → allPlain (b ∷ bs) ≡ true → (isPlain b ≡ true) × (allPlain bs ≡ true)
-unfolding allPlain
-plain-parts b bs h = and-eq-true-iff (isPlain b) (allPlain bs) .0 h
 
 plain-cons : (b : ℕ) (bs : List ℕ) → isPlain b ≡ true → allPlain bs ≡ true → allPlain (b ∷ bs) ≡ true
 unfolding allPlain
@@ -226,7 +223,7 @@ module _ (s : Stream) (r : Right s) where
   unfolding rightMedia rightAttributes withPtime attributesFit rtpmapLines fmtpLines
   ptime-fits n h =
       let (plain, few, texts, _, fit) = attribute-parts s (r .1) in
-      (r .0, rw (plain, le-leb (length (s .fmtp)) 3 few, texts, le-leb n 255 h) (le-leb (octetsTogether (rtpmapLines s ++ fmtpLines s)) 256 fit))
+      (r .0, rw (plain, le-leb (length (s .fmtp)) 3 few, texts, le-leb n 255 h) (le-leb (octetsTogether (rtpmapLines s ++ fmtpLines s)) mostAttributes fit))
 
   module _ (v : List ℕ) (h : allPlain v ≡ true) where
     rtpmap-right : every Right (rtpmapOf s v)
@@ -253,11 +250,11 @@ module _ (s : Stream) (r : Right s) where
   unfolding attributeOf
   attribute-right a h =
       every-cond Right (begins rtpmapWord a) _ _
-      (λ _. rtpmap-right (drop 7 a) (plain-drop 7 a h))
+      (λ _. rtpmap-right (drop (length rtpmapWord) a) (plain-drop (length rtpmapWord) a h))
       (λ _. every-cond Right (begins fmtpWord a) _ _
-      (λ _. fmtp-right (drop 5 a) (plain-drop 5 a h))
+      (λ _. fmtp-right (drop (length fmtpWord) a) (plain-drop (length fmtpWord) a h))
       (λ _. every-cond Right (begins ptimeWord a) _ _
-      (λ _. ptime-right (drop 6 a) (plain-drop 6 a h))
+      (λ _. ptime-right (drop (length ptimeWord) a) (plain-drop (length ptimeWord) a h))
       (λ _. every-some Right s r)))
 
 -- ---- a draft whose stream is in range once the media line is read
@@ -269,12 +266,12 @@ unfolding start
 start-kept e = absurd (omega arith)
 
 -- a needed line before the media line
-needed-kept : (n next : ℕ) (right : Bool) (d : Draft) → (next ≡ 7 → ⊥) → every Kept (needed n next right d)
+needed-kept : (n : ℕ) (right : Bool) (d : Draft) → (n ≡ 6 → ⊥) → every Kept (needed n right d)
 unfolding needed reached
-needed-kept n next right d less =
+needed-kept n right d less =
     every-if Kept (eqb (d .had) n) _
     (λ _. every-if Kept right _
-    (λ _. every-some Kept (record { had = next; address = d .address; stream = d .stream }) (λ e. absurd (less e))))
+    (λ _. every-some Kept (record { had = n + 1; address = d .address; stream = d .stream }) (λ e. absurd (less (omega arith)))))
 
 connection-kept : (d : Draft) (v : List ℕ) → every Kept (connectionLine d v)
 unfolding connectionLine withAddress
@@ -295,7 +292,7 @@ media-kept d v h = every-if Kept (eqb (d .had) 6) _ (λ _. stream-kept d (mediaO
 
 ipbcp-kept : (d : Draft) → every Kept (ipbcpLine d)
 unfolding ipbcpLine
-ipbcp-kept d = needed-kept 5 6 true d (λ e. omega arith)
+ipbcp-kept d = needed-kept 5 true d (λ e. omega arith)
 
 module _ (d : Draft) (k : Kept d) where
   attribute-kept : (a : List ℕ) → allPlain a ≡ true → every Kept (attributeLine d a)
@@ -311,11 +308,11 @@ module _ (d : Draft) (k : Kept d) where
   field-kept : (letter : ℕ) (v : List ℕ) → allPlain v ≡ true → every Kept (fieldOf d letter v)
   unfolding fieldOf versionLine originLine sessionLine timeLine
   field-kept letter v h =
-      every-cond Kept (eqb letter 118) _ _ (λ _. needed-kept 0 1 (same (48 ∷ []) v) d (λ e. omega arith))
-      (λ _. every-cond Kept (eqb letter 111) _ _ (λ _. needed-kept 1 2 (isOrigin v) d (λ e. omega arith))
-      (λ _. every-cond Kept (eqb letter 115) _ _ (λ _. needed-kept 2 3 true d (λ e. omega arith))
+      every-cond Kept (eqb letter 118) _ _ (λ _. needed-kept 0 (same (48 ∷ []) v) d (λ e. omega arith))
+      (λ _. every-cond Kept (eqb letter 111) _ _ (λ _. needed-kept 1 (isOrigin v) d (λ e. omega arith))
+      (λ _. every-cond Kept (eqb letter 115) _ _ (λ _. needed-kept 2 true d (λ e. omega arith))
       (λ _. every-cond Kept (eqb letter 99) _ _ (λ _. connection-kept d v)
-      (λ _. every-cond Kept (eqb letter 116) _ _ (λ _. needed-kept 4 5 (isTime v) d (λ e. omega arith))
+      (λ _. every-cond Kept (eqb letter 116) _ _ (λ _. needed-kept 4 (isTime v) d (λ e. omega arith))
       (λ _. every-cond Kept (eqb letter 109) _ _ (λ _. media-kept d v h)
       (λ _. every-cond Kept (eqb letter 97) _ _ (λ _. attribute-kept v h)
       (λ _. every-if Kept (has letter skippedLetters) _ (λ _. every-some Kept d k))))))))
@@ -351,7 +348,7 @@ module _ (k : Kind) (a : Address) (s : Stream) where
       let all = and-eq-true-iff (allEnded m) (allLines (lines m)) .0 h .1 in
       finish-right j (linesOf start (lines m)) (lines-kept start start-kept (lines m) all) e
 
-  head-right : (m : List ℕ) → length m ≤ 512 → (x : Head) → x ≡ headIn m → byHead m x ≡ described k a s → Right s
+  head-right : (m : List ℕ) → length m ≤ mostRead → (x : Head) → x ≡ headIn m → byHead m x ≡ described k a s → Right s
   unfolding byHead
   head-right m l Untyped q e = let z : _≡_ {A = ℕ} 0 1 = cc in absurd (omega arith)
   head-right m l (Typed version j) q e = go (eqb version 1) (isDescribed j) e
@@ -366,11 +363,11 @@ pub read-right : (m : List ℕ) (k : Kind) (a : Address) (s : Stream) → readMe
     → (rightMedia s ≡ true) × (rightAttributes s ≡ true)
 unfolding readMessage
 read-right m k a s e =
-    by-bool (leb (length m) 512) _
-    (λ h. head-right k a s m (leb-true (length m) 512 h) (headIn m) refl (rw h at e))
+    by-bool (leb (length m) mostRead) _
+    (λ h. head-right k a s m (leb-true (length m) mostRead h) (headIn m) refl (rw h at e))
     (λ h. let q : refused 8 ≡ described k a s = rw h at e in absurd (let z : _≡_ {A = ℕ} 0 1 = cc in omega arith))
 
 -- ---- writing it: nothing in range is refused, where media and transport are as short as those of audio and RTP/AVP
 pub content-octets : (own : Address) (c : Content) → isUnicast own ≡ true → rightContent c ≡ true → voice c → octetsOf own c ≡ some (messageText own c)
 unfolding octetsOf
-content-octets own c u h v = rw (u, h, le-leb (length (messageText own c)) 447 (length-message own c h v))
+content-octets own c u h v = rw (u, h, le-leb (length (messageText own c)) mostWritten (length-message own c h v))

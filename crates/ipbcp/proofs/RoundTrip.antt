@@ -3,7 +3,7 @@
 -- Assumes nothing.
 use Prim.Native.Nat.{ℕ, _+_, _≤_}
 use mathlib.Core.Path.{_≡_, refl, sym, ap, _∙_}
-use mathlib.Core.List.{List, [], _∷_, _++_, map, append-assoc, append-nil}
+use mathlib.Core.List.{List, [], _∷_, _++_, map, append-assoc, append-nil, map-append}
 use mathlib.Core.Bool.{true, false, _&&_, and-eq-true-iff}
 use mathlib.Core.Option.{Option, none, some, Option·elim}
 use lib.ListN.{length, drop, length-append}
@@ -15,6 +15,7 @@ use Rattle.octets.specs.Decimal.{isDigit, allDigits, valueFrom, shortest, numbe
 use Rattle.octets.specs.Split.{onFirst, splitOn, partOf}
 use Rattle.octets.specs.Words.{begins, same, digitRun}
 use Rattle.octets.proofs.CaseLaws.{by-bool, by-eq}
+use Rattle.octets.proofs.SplitLaws.{split-whole}
 use Rattle.texts.specs.Tokens.{noneEmpty, tokenCount}
 use Rattle.sdp.specs.Lines.{lines}
 use Rattle.sdp.specs.Written.{linesText}
@@ -27,20 +28,21 @@ use Rattle.address.specs.Canonical.{addressText}
 use Rattle.address.proofs.RoundTrip.{fits, readLike, address-back}
 use Rattle.address.proofs.Lengths.{address-some}
 use Rattle.address.proofs.Visible.{address-has}
-use Rattle.media.specs.Stream.{Stream, mediaText, rtpmapWord, fmtpWord, ptimeWord, attributeText, rtpmapText, fmtpText, ptimeText, rtpmapLines, fmtpLines, octetsTogether, attributesFit}
+use Rattle.media.specs.Stream.{Stream, mediaText, rtpmapWord, fmtpWord, ptimeWord, attributeText, rtpmapText, fmtpText, ptimeText, rtpmapLines, fmtpLines, octetsTogether, attributesFit, mostAttributes}
 use Rattle.media.specs.Attributes.{fitting, withRtpmap, withFmtp, withPtime, isAttribute, attributeOf}
-use Rattle.media.proofs.BackLaws.{split-whole, media-back, rtpmap-back, fmtp-back, ptime-back}
+use Rattle.media.proofs.BackLaws.{media-back, rtpmap-back, fmtp-back, ptime-back}
+use Rattle.media.proofs.LimitLaws.{together-append}
 use Rattle.description.specs.Draft.{Draft, start, reached, needed, versionLine, inWord, isOrigin, originLine, sessionLine, addressOf, connectionOf, withAddress, connectionLine, isTime, timeLine, ipbcpLine, withStream, mediaLine, ipbcpWord, attributeLine, fieldOf, lineOf}
 use Rattle.ipbcp.specs.declared.Kind.{Kind}
 use Rattle.ipbcp.specs.declared.Kind.the-variants.{Request, Accepted, Confused, Rejected}
 use Rattle.ipbcp.specs.declared.Head.the-variants.{Typed}
-use Rattle.ipbcp.specs.Types.{wordOf, kindOf, headOf, withoutBlank, firstHead, headIn}
-use Rattle.ipbcp.specs.Reading.{described, linesOf, finish, isDescribed, byHead, readMessage}
-use Rattle.ipbcp.specs.Writing.{Content, request, accepted, confused, rejected, familyWord, hostText, versionText, originText, sessionText, connectionText, timeText, ipbcpText, ptimeLines, streamLines, kindIn, mediaLines, messageLines, messageText, rightMedia, rightAttributes, rightContent, octetsOf, readingOf}
-use Rattle.ipbcp.proofs.WrittenLaws.{media-parts, token-parts, attribute-parts, together-append, map-append, message-lines}
+use Rattle.ipbcp.specs.Types.{wordOf, kindOf, headOf, withoutBlank, firstHead, headIn, ipbcpStart}
+use Rattle.ipbcp.specs.Reading.{described, linesOf, finish, isDescribed, byHead, readMessage, mostRead}
+use Rattle.ipbcp.specs.Writing.{Content, request, accepted, confused, rejected, familyWord, hostText, versionText, originText, sessionText, connectionText, timeText, ipbcpText, ptimeLines, streamLines, kindIn, mediaLines, messageLines, messageText, rightMedia, rightAttributes, rightContent, octetsOf, readingOf, mostWritten}
+use Rattle.ipbcp.proofs.WrittenLaws.{media-parts, token-parts, attribute-parts, message-lines}
 
 -- ---- version and type
-head-text : (k : Kind) → headOf (withoutBlank (drop 8 (ipbcpText k))) ≡ Typed 1 k
+head-text : (k : Kind) → headOf (withoutBlank (drop (length ipbcpStart) (ipbcpText k))) ≡ Typed 1 k
 unfolding ipbcpText wordOf headOf withoutBlank tokenCount noneEmpty splitOn onFirst partOf readNumber numberFrom shortest allDigits isDigit valueFrom onNumber kindOf same begins Option·elim
 head-text Request = refl
 head-text Accepted = refl
@@ -48,7 +50,7 @@ head-text Confused = refl
 head-text Rejected = refl
 
 opening-head : (own : Address) (k : Kind) (ts : List (List ℕ))
-    → firstHead (versionText ∷ originText own ∷ sessionText ∷ connectionText own ∷ timeText ∷ ipbcpText k ∷ ts) ≡ headOf (withoutBlank (drop 8 (ipbcpText k)))
+    → firstHead (versionText ∷ originText own ∷ sessionText ∷ connectionText own ∷ timeText ∷ ipbcpText k ∷ ts) ≡ headOf (withoutBlank (drop (length ipbcpStart) (ipbcpText k)))
 unfolding firstHead begins originText connectionText ipbcpText
 opening-head own k ts = refl
 
@@ -131,12 +133,12 @@ module _ (own : Address) (s : Stream) (h : rightMedia s ≡ true) (k : rightAttr
   part-fits fs gs e =
       let (_, _, _, _, all) = attribute-parts s k in
       let m = rtpmapLines s in
-      let x : octetsTogether (m ++ map fmtpText (fs ++ gs)) ≤ 256 = rw e all in
+      let x : octetsTogether (m ++ map fmtpText (fs ++ gs)) ≤ mostAttributes = rw e all in
       let y = together-append m (map fmtpText (fs ++ gs)) in
       let z = together-append (map fmtpText fs) (map fmtpText gs) in
-      let w : octetsTogether (map fmtpText (fs ++ gs)) ≡ octetsTogether (map fmtpText fs ++ map fmtpText gs) = rw (map-append fs gs) in
+      let w : octetsTogether (map fmtpText (fs ++ gs)) ≡ octetsTogether (map fmtpText fs ++ map fmtpText gs) = rw (map-append fmtpText fs gs) in
       let v = together-append m (map fmtpText fs) in
-      le-leb (octetsTogether (m ++ map fmtpText fs)) 256 (omega arith)
+      le-leb (octetsTogether (m ++ map fmtpText fs)) mostAttributes (omega arith)
 
   attribute-read : (t : Stream) (a : List ℕ) → begins ipbcpWord a ≡ false → isAttribute a ≡ true → (u : Stream) → attributeOf t a ≡ some u
       → lineOf (sevenLines own t) (attributeText a) ≡ some (sevenLines own u)
@@ -226,27 +228,27 @@ module _ (own : Address) (f : fits own) (u : isUnicast own ≡ true) where
   by-kind confused h m e = refl
   by-kind rejected h m e = refl
 
-  text-read : (c : Content) → rightContent c ≡ true → length (messageText own c) ≤ 447 → readMessage (messageText own c) ≡ readingOf own c
+  text-read : (c : Content) → rightContent c ≡ true → length (messageText own c) ≤ mostWritten → readMessage (messageText own c) ≡ readingOf own c
   unfolding readMessage headIn messageText
   text-read c h l =
       let ts = messageLines own c in
       let all = message-lines own c h in
-      rw (le-leb (length (linesText ts)) 512 (omega arith), inLines-written ts all, lines-written ts all, message-head own c)
+      rw (le-leb (length (linesText ts)) mostRead (omega arith), inLines-written ts all, lines-written ts all, message-head own c)
       (by-kind c h (linesText ts) (lines-written ts all))
 
 -- what stands to be written is in range, is short, and is the text
 pub octets-are : (own : Address) (c : Content) (t : List ℕ) → octetsOf own c ≡ some t
-    → (isUnicast own ≡ true) × (rightContent c ≡ true) × (length t ≤ 447) × (t ≡ messageText own c)
+    → (isUnicast own ≡ true) × (rightContent c ≡ true) × (length t ≤ mostWritten) × (t ≡ messageText own c)
 unfolding octetsOf
 octets-are own c t e =
     let m = messageText own c in
-    by-bool (isUnicast own && (rightContent c && leb (length m) 447)) _
+    by-bool (isUnicast own && (rightContent c && leb (length m) mostWritten)) _
     (λ h.
-    let a = and-eq-true-iff (isUnicast own) (rightContent c && leb (length m) 447) .0 h in
-    let b = and-eq-true-iff (rightContent c) (leb (length m) 447) .0 (a .1) in
+    let a = and-eq-true-iff (isUnicast own) (rightContent c && leb (length m) mostWritten) .0 h in
+    let b = and-eq-true-iff (rightContent c) (leb (length m) mostWritten) .0 (a .1) in
     let q : some m ≡ some t = rw h at e in
     let z : m ≡ t = cc in
-    (a .0, b .0, rw (← z) (leb-true (length m) 447 (b .1)), sym z))
+    (a .0, b .0, rw (← z) (leb-true (length m) mostWritten (b .1)), sym z))
     (λ h. let q : none ≡ some t = rw h at e in absurd (let z : _≡_ {A = ℕ} 0 1 = cc in omega arith))
 
 -- Every message that can be written is read as what was written.

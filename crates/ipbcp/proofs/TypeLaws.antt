@@ -119,13 +119,13 @@ module _ (m : List ℕ) (i : ℕ) (x : Head) (inv : headIn (drop i m) ≡ x) whe
             let z : inLines (drop n m) ≡ false = rw (← behind) (sym rest ∙ b) in
             rw (loop-inLines m i y w sp n q, z) at inv
 
-        pub head-found : u ≡ true → (a c : List ℕ) → a ≡ drop 8 s → c ≡ withoutBlank a → (h : Head) → h ≡ headOf c → h ≡ x
+        pub head-found : u ≡ true → (a c : List ℕ) → a ≡ drop (length ipbcpStart) s → c ≡ withoutBlank a → (h : Head) → h ≡ headOf c → h ≡ x
         unfolding headIn firstHead
         head-found b a c da dc h d =
             let f : begins ipbcpStart (textOf m sp) ≡ true = rw (← at) (sym is ∙ e) in
             let z : inLines (drop n m) ≡ true = rw (← behind) (sym rest ∙ b) in
-            let v : headOf (withoutBlank (drop 8 (textOf m sp))) ≡ x = rw (loop-lines m i y w sp n q, loop-inLines m i y w sp n q, z, f) at inv in
-            let g : headOf c ≡ headOf (withoutBlank (drop 8 (textOf m sp))) = rw (dc, da, at) in
+            let v : headOf (withoutBlank (drop (length ipbcpStart) (textOf m sp))) ≡ x = rw (loop-lines m i y w sp n q, loop-inLines m i y w sp n q, z, f) at inv in
+            let g : headOf c ≡ headOf (withoutBlank (drop (length ipbcpStart) (textOf m sp))) = rw (dc, da, at) in
             d ∙ g ∙ v
 
 pub ruleset heads = (head-end, head-none, head-more, head-bad, head-found)

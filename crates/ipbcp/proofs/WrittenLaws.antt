@@ -1,7 +1,7 @@
 -- Each line of a message that is written is one: its texts have no octet that ends a line, or are told to have none.
 -- Assumes nothing.
 use Prim.Native.Nat.{ℕ, _+_, _≤_, _<_}
-use mathlib.Core.Path.{_≡_, refl, ap, _∙_}
+use mathlib.Core.Path.{_≡_, refl, _∙_}
 use mathlib.Core.List.{List, [], _∷_, _++_, map}
 use mathlib.Core.Bool.{Bool, true, false, not, _&&_, _||_, and-eq-true-iff}
 use lib.ListN.{length}
@@ -10,15 +10,16 @@ use native.Mathlib.Omega.{arith}
 use borrow.Author.Tests.{leb-true, ltb-true}
 use Rattle.octets.specs.Append.{numberText}
 use Rattle.octets.specs.Split.{has}
+use Rattle.octets.specs.Decimal.{isDigit}
 use Rattle.octets.proofs.CaseLaws.{by-bool}
+use Rattle.octets.proofs.RoundTrip.{number-has}
 use Rattle.sdp.specs.Lines.{isPlain, allPlain, isLine, allLines}
 use Rattle.sdp.proofs.PlainLaws.{plain-append, line-is}
 use Rattle.address.specs.declared.Address.{Address}
 use Rattle.address.specs.declared.Address.the-variants.{V4, V6}
 use Rattle.address.specs.Canonical.{addressText}
 use Rattle.address.proofs.Visible.{address-has}
-use Rattle.media.specs.Stream.{Stream, mediaText, rtpmapWord, fmtpWord, ptimeWord, attributeText, rtpmapText, fmtpText, ptimeText, rtpmapLines, fmtpLines, octetsTogether, attributesFit}
-use Rattle.media.proofs.BackLaws.{number-has}
+use Rattle.media.specs.Stream.{Stream, mediaText, rtpmapWord, fmtpWord, ptimeWord, attributeText, rtpmapText, fmtpText, ptimeText, rtpmapLines, fmtpLines, octetsTogether, attributesFit, mostAttributes}
 use Rattle.ipbcp.specs.declared.Kind.{Kind}
 use Rattle.ipbcp.specs.declared.Kind.the-variants.{Request, Accepted, Confused, Rejected}
 use Rattle.ipbcp.specs.Types.{wordOf}
@@ -43,7 +44,8 @@ address-plain : (a : Address) → allPlain (addressText a) ≡ true
 address-plain a = plain-has (addressText a) (address-has a 0 (omega arith)) (address-has a 13 (omega arith)) (address-has a 10 (omega arith))
 
 number-plain : (n : ℕ) → allPlain (numberText n) ≡ true
-number-plain n = plain-has (numberText n) (number-has n 0 (omega arith)) (number-has n 13 (omega arith)) (number-has n 10 (omega arith))
+unfolding isDigit
+number-plain n = plain-has (numberText n) (number-has 0 n refl) (number-has 13 n refl) (number-has 10 n refl)
 
 host-plain : (a : Address) → allPlain (hostText a) ≡ true
 unfolding hostText familyWord allPlain isPlain
@@ -73,15 +75,15 @@ token-parts t h =
     (ltb-true 0 (length t) (a .0), not-true (has 32 t) (b .0), b .1)
 
 module _ (s : Stream) (h : rightAttributes s ≡ true) where
-  pub attribute-parts : (allPlain (s .rtpmap) ≡ true) × (length (s .fmtp) ≤ 3) × (allTextsPlain (s .fmtp) ≡ true) × (s .ptime ≤ 255) × (octetsTogether (rtpmapLines s ++ fmtpLines s) ≤ 256)
+  pub attribute-parts : (allPlain (s .rtpmap) ≡ true) × (length (s .fmtp) ≤ 3) × (allTextsPlain (s .fmtp) ≡ true) × (s .ptime ≤ 255) × (octetsTogether (rtpmapLines s ++ fmtpLines s) ≤ mostAttributes)
   unfolding rightAttributes attributesFit
   attribute-parts =
-      let fit = leb (octetsTogether (rtpmapLines s ++ fmtpLines s)) 256 in
+      let fit = leb (octetsTogether (rtpmapLines s ++ fmtpLines s)) mostAttributes in
       let a = and-eq-true-iff (allPlain (s .rtpmap)) (leb (length (s .fmtp)) 3 && (allTextsPlain (s .fmtp) && (leb (s .ptime) 255 && fit))) .0 h in
       let b = and-eq-true-iff (leb (length (s .fmtp)) 3) (allTextsPlain (s .fmtp) && (leb (s .ptime) 255 && fit)) .0 (a .1) in
       let c = and-eq-true-iff (allTextsPlain (s .fmtp)) (leb (s .ptime) 255 && fit) .0 (b .1) in
       let d = and-eq-true-iff (leb (s .ptime) 255) fit .0 (c .1) in
-      (a .0, leb-true (length (s .fmtp)) 3 (b .0), c .0, leb-true (s .ptime) 255 (d .0), leb-true (octetsTogether (rtpmapLines s ++ fmtpLines s)) 256 (d .1))
+      (a .0, leb-true (length (s .fmtp)) 3 (b .0), c .0, leb-true (s .ptime) 255 (d .0), leb-true (octetsTogether (rtpmapLines s ++ fmtpLines s)) mostAttributes (d .1))
 
 -- ---- each line is one
 no-lines : allLines [] ≡ true
@@ -200,13 +202,3 @@ opening-lines own k ts h = rw (origin-line own, connection-line own, ipbcp-line 
 pub message-lines : (own : Address) (c : Content) → rightContent c ≡ true → allLines (messageLines own c) ≡ true
 unfolding messageLines
 message-lines own c h = opening-lines own (kindIn c) (mediaLines c) (content-lines c h)
-
--- ---- lines together
-pub together-append : (ts us : List (List ℕ)) → octetsTogether (ts ++ us) ≡ octetsTogether ts + octetsTogether us
-unfolding octetsTogether
-together-append [] us = omega arith
-together-append (t ∷ ts) us = rw (together-append ts us) (omega arith)
-
-pub map-append : (ts us : List (List ℕ)) → map fmtpText (ts ++ us) ≡ map fmtpText ts ++ map fmtpText us
-map-append [] us = refl
-map-append (t ∷ ts) us = ap (λ (x : List (List ℕ)). fmtpText t ∷ x) (map-append ts us)

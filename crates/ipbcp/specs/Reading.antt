@@ -49,8 +49,8 @@ byHead m (Typed version kind) =
     (typed version kind)
 
 -- number 8 is given above this
-abbrev pub mostOctets : ℕ
-mostOctets = 512
+abbrev pub mostRead : ℕ
+mostRead = 512
 
 unfoldable pub readMessage : List ℕ → Reading
-readMessage m = cond (leb (length m) mostOctets) (byHead m (headIn m)) (refused 8)
+readMessage m = cond (leb (length m) mostRead) (byHead m (headIn m)) (refused 8)

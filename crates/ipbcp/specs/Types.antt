@@ -3,20 +3,21 @@ use Prim.Native.Nat.{ℕ}
 use mathlib.Core.List.{List, [], _∷_}
 use mathlib.Core.Bool.{cond}
 use mathlib.Core.Option.{Option, none, some, Option·elim}
-use lib.ListN.{drop}
+use lib.ListN.{drop, length}
 use lib.Dec.{eqb, leb}
 use Rattle.octets.specs.Decimal.{readNumber, onNumber}
 use Rattle.octets.specs.Words.{begins, same}
 use Rattle.texts.specs.Tokens.{token, tokenCount}
 use Rattle.sdp.specs.Lines.{lines, inLines}
+use Rattle.description.specs.Draft.{ipbcpWord}
 use Rattle.ipbcp.specs.declared.Kind.{Kind}
 use Rattle.ipbcp.specs.declared.Kind.the-variants.{Request, Accepted, Confused, Rejected}
 use Rattle.ipbcp.specs.declared.Head.{Head}
 use Rattle.ipbcp.specs.declared.Head.the-variants.{Typed, Untyped}
 
--- "a=ipbcp:"
+-- "a=" and "ipbcp:"
 abbrev pub ipbcpStart : List ℕ
-ipbcpStart = 97 ∷ 61 ∷ 105 ∷ 112 ∷ 98 ∷ 99 ∷ 112 ∷ 58 ∷ []
+ipbcpStart = 97 ∷ 61 ∷ ipbcpWord
 
 -- "Request", "Accepted", "Confused" and "Rejected"
 unfoldable pub wordOf : Kind → List ℕ
@@ -50,8 +51,8 @@ withoutBlank (b ∷ bs) = cond (eqb b 32) bs (b ∷ bs)
 -- what the first line that begins `a=ipbcp:` says behind that
 unfoldable pub firstHead : List (List ℕ) → Head
 firstHead [] = Untyped
-firstHead (t ∷ ts) = cond (begins ipbcpStart t) (headOf (withoutBlank (drop 8 t))) (firstHead ts)
+firstHead (t ∷ ts) = cond (begins ipbcpStart t) (headOf (withoutBlank (drop (length ipbcpStart) t))) (firstHead ts)
 
--- the version and the type of m, which is made of lines; where there are none, m is refused by 9
+-- the version and the type of m, if it is made of lines; `Untyped` is refused by 9
 unfoldable pub headIn : List ℕ → Head
 headIn m = cond (inLines m) (firstHead (lines m)) Untyped

@@ -63,9 +63,13 @@ ipbcpText k = ipbcpStart ++ (49 ∷ 32 ∷ wordOf k)
 unfoldable pub ptimeLines : ℕ → List (List ℕ)
 ptimeLines n = cond (eqb n 0) [] (ptimeText n ∷ [])
 
--- "m=" and what it says; rtpmap; fmtp in order; ptime
+-- rtpmap, fmtp in order, and ptime
+abbrev pub attributeLines : Stream → List (List ℕ)
+attributeLines s = rtpmapLines s ++ (fmtpLines s ++ ptimeLines (s .ptime))
+
+-- "m=" and what it says, and the attributes
 unfoldable pub streamLines : Stream → List (List ℕ)
-streamLines s = (109 ∷ 61 ∷ mediaText s) ∷ (rtpmapLines s ++ (fmtpLines s ++ ptimeLines (s .ptime)))
+streamLines s = (109 ∷ 61 ∷ mediaText s) ∷ attributeLines s
 
 unfoldable pub kindIn : Content → Kind
 kindIn (request s) = Request
@@ -87,6 +91,7 @@ unfoldable pub messageText : Address → Content → List ℕ
 messageText own c = linesText (messageLines own c)
 
 -- ---- what is in range: just what would be read back
+-- not empty, without a blank (32), and of octets that may stand in a line
 unfoldable pub isToken : List ℕ → Bool
 isToken t = ltb 0 (length t) && (not (has 32 t) && allPlain t)
 
@@ -94,9 +99,11 @@ unfoldable pub allTextsPlain : List (List ℕ) → Bool
 allTextsPlain [] = true
 allTextsPlain (t ∷ ts) = allPlain t && allTextsPlain ts
 
+-- media and transport are tokens, port and payload in range
 unfoldable pub rightMedia : Stream → Bool
 rightMedia s = isToken (s .media) && (leb 1 (s .port) && (leb (s .port) 65535 && (isToken (s .transport) && leb (s .payload) 127)))
 
+-- the texts may stand in lines, at most three of them fmtp's; the packet time is in range; the lines are not too long
 unfoldable pub rightAttributes : Stream → Bool
 rightAttributes s =
     allPlain (s .rtpmap) && (leb (length (s .fmtp)) 3 && (allTextsPlain (s .fmtp) && (leb (s .ptime) 255 && attributesFit s)))

@@ -15,7 +15,7 @@ use media::Stream;
 use sdp::Line;
 
 // The longest message that is read.
-pub const MOST_OCTETS: usize = 512;
+pub const MOST_READ: usize = 512;
 
 // The type of a message.
 pub enum Kind {
@@ -119,7 +119,7 @@ fn is_described(kind: Kind) -> bool
 pub fn read(m: &[u8]) -> Message
     ensures { λ r. ⌜ readingIn (now (m .entry)) r ≡ some (readMessage (now (m .entry))) ⌝ }
 {
-    if MOST_OCTETS < m.len() {
+    if MOST_READ < m.len() {
         return Message::Refused(8);
     }
     let Head::Typed { version, kind } = types::read_head(m) else {

@@ -15,8 +15,7 @@ use Rattle.media.specs.declared.Texts.{Texts}
 use Rattle.media.specs.declared.Stream.{Stream as Places}
 use Rattle.media.specs.Stream.{mediaText, attributeText, rtpmapText, fmtpText, ptimeText, rtpmapLines, fmtpLines}
 use Rattle.media.specs.Meaning.{spansOf, textsBy, streamBy}
-use Rattle.ipbcp.specs.Writing.{ptimeLines, streamLines}
-use Rattle.ipbcp_write.specs.Parts.{attributeLines}
+use Rattle.ipbcp.specs.Writing.{ptimeLines, streamLines, attributeLines}
 use Rattle.ipbcp_write.proofs.LineLaws.{lines-one, lines-append}
 
 -- two lines

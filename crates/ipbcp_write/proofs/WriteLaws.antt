@@ -1,4 +1,4 @@
--- A body whose fields are in range stands for its content, and any other for nothing that is written; a scratch of 448 octets holds the message or shows that it is too long.
+-- A body whose fields are in range stands for its content, and any other for nothing that is written; a scratch with room for one octet more than is written holds the message or shows that it is too long.
 -- Assumes nothing.
 use Prim.Native.Nat.{ℕ, _+_, _-_, _≤_, _<_, min}
 use mathlib.Core.Path.{_≡_, refl, sym, _∙_}
@@ -13,7 +13,7 @@ use borrow.Author.Tests.{le-leb, lt-leb}
 use Rattle.octets.specs.declared.Put.{Put}
 use Rattle.octets.specs.declared.Put.the-variants.{Refused}
 use Rattle.octets.specs.Append.{nextOf, Appends}
-use Rattle.octets.specs.Puts.{Puts}
+use Rattle.octets.specs.Puts.{bounded, Puts}
 use Rattle.octets.proofs.AppendLaws.{append-then}
 use Rattle.octets.proofs.CaseLaws.{by-bool}
 use Rattle.octets.proofs.PutsLaws.{puts-none, scratch-text}
@@ -26,9 +26,9 @@ use Rattle.media.specs.Meaning.{streamBy, streamInside, streamIn}
 use Rattle.ipbcp.specs.declared.Body.{Body}
 use Rattle.ipbcp.specs.declared.Body.the-variants as body
 use Rattle.ipbcp.specs.declared.Kind.{Kind}
-use Rattle.ipbcp.specs.Writing.{Content, request, accepted, confused, rejected, versionText, originText, sessionText, connectionText, timeText, ipbcpText, kindIn, mediaLines, messageLines, messageText, rightMedia, rightAttributes, rightContent, octetsOf, octetsIn}
+use Rattle.ipbcp.specs.Writing.{Content, request, accepted, confused, rejected, versionText, originText, sessionText, connectionText, timeText, ipbcpText, kindIn, mediaLines, messageLines, messageText, rightMedia, rightAttributes, rightContent, octetsOf, octetsIn, mostWritten}
 use Rattle.ipbcp.specs.Meaning.{contentIn}
-use Rattle.ipbcp_write.specs.Parts.{contentBy, kindOf, rightStream, rightBody, bounded}
+use Rattle.ipbcp_write.specs.Parts.{contentBy, kindOf, rightStream, rightBody}
 use Rattle.ipbcp_write.proofs.LineLaws.{lines-append}
 
 -- ---- the parts of a message
@@ -62,7 +62,7 @@ message-then own m b k e l f g h at x y r p q o =
 
 -- ---- the ranges
 module _ (own : Address) (m : List ℕ) where
-  right-of : (c : Content) → isUnicast own ≡ true → rightContent c ≡ true → octetsOf own c ≡ bounded (messageText own c)
+  right-of : (c : Content) → isUnicast own ≡ true → rightContent c ≡ true → octetsOf own c ≡ bounded mostWritten (messageText own c)
   unfolding octetsOf bounded
   right-of c u h = rw (u, h)
 
@@ -70,13 +70,13 @@ module _ (own : Address) (m : List ℕ) where
   unfolding octetsOf
   wrong-of c h = go (isUnicast own) (rightContent c) h
     where
-      go : (u v : Bool) → (u && v) ≡ false → cond (u && (v && leb (length (messageText own c)) 447)) (some (messageText own c)) none ≡ none
+      go : (u v : Bool) → (u && v) ≡ false → cond (u && (v && leb (length (messageText own c)) mostWritten)) (some (messageText own c)) none ≡ none
       go true true e = let z : _≡_ {A = ℕ} 0 1 = cc in absurd (omega arith)
       go true false e = refl
       go false v e = refl
 
   stream-right : (s : Places) (f : Stream → Content) → rightContent (f (streamBy m s)) ≡ (rightMedia (streamBy m s) && rightAttributes (streamBy m s)) → isUnicast own ≡ true → rightStream m s ≡ true
-      → octetsIn own (Option·map f (streamIn m s)) ≡ bounded (messageText own (f (streamBy m s)))
+      → octetsIn own (Option·map f (streamIn m s)) ≡ bounded mostWritten (messageText own (f (streamBy m s)))
   unfolding rightStream streamIn octetsIn
   stream-right s f is u h =
       let a = and-eq-true-iff (streamInside m s) (rightMedia (streamBy m s) && rightAttributes (streamBy m s)) .0 h in
@@ -90,7 +90,7 @@ module _ (own : Address) (m : List ℕ) where
       (λ e. rw e (wrong-of (f (streamBy m s)) (let z : (isUnicast own && (rightMedia (streamBy m s) && rightAttributes (streamBy m s))) ≡ false = rw e at h in rw is z)))
       (λ e. rw e)
 
-  body-right : (b : Body) → isUnicast own ≡ true → rightBody m b ≡ true → octetsIn own (contentIn m b) ≡ bounded (messageText own (contentBy m b))
+  body-right : (b : Body) → isUnicast own ≡ true → rightBody m b ≡ true → octetsIn own (contentIn m b) ≡ bounded mostWritten (messageText own (contentBy m b))
   unfolding rightBody contentIn contentBy rightContent octetsIn
   body-right (body.Request s) u h = stream-right s request refl u h
   body-right (body.Accepted s) u h = stream-right s accepted refl u h
@@ -120,23 +120,23 @@ module _ (own : Address) (m : List ℕ) where
           let x : (isUnicast own && rightBody m b) ≡ false = let y : rightBody m b ≡ false = sym be ∙ e in rw (unicast, y) in
           rw (body-wrong b x) (puts-none l)
 
-      pub writes-right : v ≡ true → (r : Put) (f : List ℕ) → Puts (bounded (messageText own (contentBy m b))) l r f → Puts (octetsIn own (contentIn m b)) l r f
+      pub writes-right : v ≡ true → (r : Put) (f : List ℕ) → Puts (bounded mostWritten (messageText own (contentBy m b))) l r f → Puts (octetsIn own (contentIn m b)) l r f
       writes-right e r f p = rw (body-right b unicast (sym be ∙ e)) p
 
 pub ruleset writing = (writes-no-address, writes-none, writes-right)
 
 -- ---- the scratch: n octets of it hold the text t, or what of it they can
-module _ (t z g l : List ℕ) (n : ℕ) (p : Appends z 0 t n g) (size : length z ≡ 448) where
-  pub scratch-long : 447 < n → Puts (bounded t) l (Refused 5) l
+module _ (t z g l : List ℕ) (n : ℕ) (p : Appends z 0 t n g) (size : length z ≡ mostWritten + 1) where
+  pub scratch-long : mostWritten < n → Puts (bounded mostWritten t) l (Refused 5) l
   unfolding bounded nextOf
-  scratch-long h = rw (lt-leb (length t) 447 (let e : n ≡ 0 + min (length z - 0) (length t) = p .next in omega arith)) (puts-none l)
+  scratch-long h = rw (lt-leb (length t) mostWritten (let e : n ≡ 0 + min (length z - 0) (length t) = p .next in omega arith)) (puts-none l)
 
-  pub scratch-short : n ≤ 447 → (r : Put) (f : List ℕ) → Puts (some (take (n - 0) (drop 0 g))) l r f → Puts (bounded t) l r f
+  pub scratch-short : n ≤ mostWritten → (r : Put) (f : List ℕ) → Puts (some (take (n - 0) (drop 0 g))) l r f → Puts (bounded mostWritten t) l r f
   unfolding bounded nextOf
   scratch-short h r f q =
       let e : n ≡ 0 + min (length z - 0) (length t) = p .next in
-      let few : length t ≤ 447 = omega arith in
-      let x : take (n - 0) (drop 0 g) ≡ t = scratch-text z g t n p 448 size ∙ take-all 448 t (omega arith) in
-      rw (le-leb (length t) 447 few) (rw x at q)
+      let few : length t ≤ mostWritten = omega arith in
+      let x : take (n - 0) (drop 0 g) ≡ t = scratch-text z g t n p (mostWritten + 1) size ∙ take-all (mostWritten + 1) t (omega arith) in
+      rw (le-leb (length t) mostWritten few) (rw x at q)
 
 pub ruleset scratching = (scratch-long, scratch-short)

@@ -1,19 +1,15 @@
 -- For the functions of this crate that are not public: what stands between a body whose texts are places in a source and the octets of its message.
 use Prim.Native.Nat.{ℕ}
 use mathlib.Core.List.{List, [], _∷_, _++_}
-use mathlib.Core.Bool.{Bool, true, _&&_, cond}
-use mathlib.Core.Option.{Option, none, some}
-use lib.ListN.{length}
-use lib.Dec.{leb}
+use mathlib.Core.Bool.{Bool, true, _&&_}
 use Rattle.address.specs.declared.Address.{Address}
 use Rattle.media.specs.declared.Stream.{Stream as Places}
-use Rattle.media.specs.Stream.{Stream, rtpmapLines, fmtpLines}
 use Rattle.media.specs.Meaning.{streamBy, streamInside}
 use Rattle.ipbcp.specs.declared.Body.{Body}
 use Rattle.ipbcp.specs.declared.Body.the-variants as body
 use Rattle.ipbcp.specs.declared.Kind.{Kind}
 use Rattle.ipbcp.specs.declared.Kind.the-variants as kind
-use Rattle.ipbcp.specs.Writing.{Content, request, accepted, confused, rejected, familyWord, ptimeLines, rightMedia, rightAttributes, mostWritten}
+use Rattle.ipbcp.specs.Writing.{Content, request, accepted, confused, rejected, familyWord, rightMedia, rightAttributes}
 
 -- the content by the octets of m that are in the spans, wherever these end
 unfoldable pub contentBy : List ℕ → Body → Content
@@ -42,11 +38,3 @@ rightBody m body.Rejected = true
 -- "IN", the family, and a blank behind each
 abbrev pub hostStart : Address → List ℕ
 hostStart a = 73 ∷ 78 ∷ 32 ∷ (familyWord a ++ (32 ∷ []))
-
--- rtpmap, fmtp in order, and ptime
-abbrev pub attributeLines : Stream → List (List ℕ)
-attributeLines s = rtpmapLines s ++ (fmtpLines s ++ ptimeLines (s .ptime))
-
--- the octets of a message, where they are not too many
-unfoldable pub bounded : List ℕ → Option (List ℕ)
-bounded t = cond (leb (length t) mostWritten) (some t) none

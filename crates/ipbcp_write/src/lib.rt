@@ -5,11 +5,11 @@ mod stream;
 
 ghost use mathlib.Core.Path.{_≡_};
 ghost use Rattle.octets.specs.Append.{Appends};
-ghost use Rattle.octets.specs.Puts.{Puts};
+ghost use Rattle.octets.specs.Puts.{bounded, Puts};
 ghost use Rattle.sdp.specs.Written.{linesText};
-ghost use Rattle.ipbcp.specs.Writing.{mediaLines, messageText, octetsIn};
+ghost use Rattle.ipbcp.specs.Writing.{mediaLines, messageText, octetsIn, mostWritten};
 ghost use Rattle.ipbcp.specs.Meaning.{contentIn};
-ghost use Rattle.ipbcp_write.specs.Parts.{contentBy, kindOf, bounded};
+ghost use Rattle.ipbcp_write.specs.Parts.{contentBy, kindOf};
 use address::Address;
 use ipbcp::Body;
 use ipbcp::Kind;
@@ -20,7 +20,7 @@ use octets::append::put_front;
 pub const MOST_WRITTEN: usize = 447;
 
 // Room for one octet more, so that a message that is too long shows.
-const SCRATCH: usize = 448;
+const SCRATCH: usize = MOST_WRITTEN + 1;
 
 // The type of a message.
 fn kind_of(body: Body) -> Kind
@@ -57,7 +57,7 @@ fn push_message(body: Body, own: Address, source: &[u8], out: &mut [u8], at: usi
 
 // Writes a message whose fields are in range, where it is not too long.
 fn write_right(body: Body, own: Address, source: &[u8], out: &mut [u8]) -> Put
-    ensures { λ r. ⌜ Puts (bounded (messageText own (contentBy (now (source .entry)) body))) (now (out .entry)) r (now (out .exit)) ⌝ }
+    ensures { λ r. ⌜ Puts (bounded mostWritten (messageText own (contentBy (now (source .entry)) body))) (now (out .entry)) r (now (out .exit)) ⌝ }
 {
     let mut scratch = [0u8; SCRATCH];
     let n = push_message(body, own, source, &mut scratch, 0);

@@ -17,13 +17,14 @@ use Rattle.octets.specs.Append.{put, nextOf, Appends}
 use Rattle.octets.specs.Spans.{textOf}
 use Rattle.octets.proofs.AppendLaws.{append-more, append-room, length-appends}
 use Rattle.octets.proofs.CaseLaws.{by-bool}
-use Rattle.media.specs.Meaning.{spansOf, textsBy, streamBy, allIn, streamInside}
+use Rattle.media.specs.declared.Stream.{Stream as Places}
+use Rattle.media.specs.Meaning.{spansOf, textsBy, streamBy, allIn, streamInside, barePlaces}
 use Rattle.configuration.specs.declared.Format.{Format}
 use Rattle.configuration.specs.declared.Format.the-variants.{Payload, Named}
 use Rattle.configuration.specs.declared.Codec.{Codec as Place}
 use Rattle.configuration.specs.declared.Entry.{Entry}
 use Rattle.configuration.specs.declared.Config.{Config}
-use Rattle.configuration.specs.Configuration.{entryIn, suits, nameOf, noneOrInRange}
+use Rattle.configuration.specs.Configuration.{entryIn, suits, nameOf, noneOrInRange, mostName}
 use Rattle.configuration.specs.Meaning.{formatBy, codecBy, codecsBy, configurationBy, entryBy}
 use Rattle.bearer.specs.declared.Request.{Request}
 use Rattle.bearer.specs.Judging.{audio, rtpAvp, offered, commanded}
@@ -40,8 +41,12 @@ unfolding formatBy nameOf
 name-short (Payload n) name = omega arith
 name-short (Named n) name = simp length-take (omega arith)
 
--- the words, a name t of at most 32 octets, and what was there; a and r are where the name begins and ends
-module _ (z g f t : List ℕ) (a r : ℕ) (room : length z ≡ 44) (short : length t ≤ 32) (p : Appends z 0 (audio ++ rtpAvp) a g) (q : Appends g a t r f) where
+-- a Request's text has room for the two words and a name
+abbrev mostOffered : ℕ
+mostOffered = 12 + mostName
+
+-- the words, a name t that is not too long, and what was there; a and r are where the name begins and ends
+module _ (z g f t : List ℕ) (a r : ℕ) (room : length z ≡ mostOffered) (short : length t ≤ mostName) (p : Appends z 0 (audio ++ rtpAvp) a g) (q : Appends g a t r f) where
   name-length : r - a ≡ length t
   name-length =
       let (e, _) = append-room z g 0 (audio ++ rtpAvp) a p (omega arith) in
@@ -52,38 +57,39 @@ module _ (z g f t : List ℕ) (a r : ℕ) (room : length z ≡ 44) (short : leng
   unfolding put
   text-whole = (_, append-room z f 0 (audio ++ rtpAvp ++ t) r (append-more z g f (audio ++ rtpAvp) t 0 a r p q) (omega arith) .1)
 
-  length-whole : length f ≡ 44
+  length-whole : length f ≡ mostOffered
   length-whole = length-appends g f a t r q ∙ length-appends z g 0 (audio ++ rtpAvp) a p ∙ room
 
--- a name's array has 32 octets; h says how one is kept, and any h will do
-module _ (k : Place) {X : Type 0} (h : ℕ → X) (array : length (map h (k .name)) ≡ 32) where
-  short-name : length (nameOf (codecBy k)) ≤ 32
+-- a name's array has so many octets; h says how one is kept, and any h will do
+module _ (k : Place) {X : Type 0} (h : ℕ → X) (array : length (map h (k .name)) ≡ mostName) where
+  short-name : length (nameOf (codecBy k)) ≤ mostName
   short-name = omega (arith, name-short (k .format) (k .name), length-map (k .name) h)
 
-  pub offer-is : (port payload ptime a r : ℕ) (g f : List ℕ) → Appends (replicate 44 0) 0 (audio ++ rtpAvp) a g → Appends g a (nameOf (codecBy k)) r f
+  pub offer-is : (port payload ptime a r : ℕ) (g f : List ℕ) (s : Places) → s ≡ barePlaces (record { at = 0; len = 5 }) port (record { at = 5; len = 7 }) payload
+      → Appends (replicate mostOffered 0) 0 (audio ++ rtpAvp) a g → Appends g a (nameOf (codecBy k)) r f
       → Offers port (codecBy k) payload ptime (record {
         stream = record {
-          media = record { at = 0; len = 5 };
-          port = port;
-          transport = record { at = 5; len = 7 };
-          payload = payload;
+          media = s .media;
+          port = s .port;
+          transport = s .transport;
+          payload = s .payload;
           rtpmap = record { at = 12; len = r - a };
-          fmtp = record { count = 0; first = record { at = 0; len = 0 }; second = record { at = 0; len = 0 }; third = record { at = 0; len = 0 } };
+          fmtp = s .fmtp;
           ptime = ptime;
         };
         text = f;
       })
   unfolding requestBy streamBy streamInside textsBy spansOf allIn textOf offered
-  offer-is port payload ptime a r g f p q =
-      let z : List ℕ = replicate 44 0 in
+  offer-is port payload ptime a r g f s bare p q =
+      let z : List ℕ = replicate mostOffered 0 in
       let t : List ℕ = nameOf (codecBy k) in
-      let room : length z ≡ 44 = length-replicate {A = ℕ} 44 0 in
+      let room : length z ≡ mostOffered = length-replicate {A = ℕ} mostOffered 0 in
       let n = name-length z g f t a r room short-name p q in
       let (w, e) = text-whole z g f t a r room short-name p q in
       let l = length-whole z g f t a r room short-name p q in
       record {
-        is = λ c i. rw (e, n, i, take-at t w (length t) refl);
-        inside = rw (le-leb (0 + 5) (length f) (omega arith), le-leb (5 + 7) (length f) (omega arith), le-leb (12 + (r - a)) (length f) (omega (arith, short-name)));
+        is = λ c i. rw (bare, e, n, i, take-at t w (length t) refl);
+        inside = rw (bare, le-leb (0 + 5) (length f) (omega arith), le-leb (5 + 7) (length f) (omega arith), le-leb (12 + (r - a)) (length f) (omega (arith, short-name)));
       }
 
 -- ---- a payload that suits the entry k

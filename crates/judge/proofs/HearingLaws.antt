@@ -20,7 +20,7 @@ use Rattle.ipbcp.specs.declared.Head.the-variants.{Typed, Untyped}
 use Rattle.ipbcp.specs.declared.Message.{Message}
 use Rattle.ipbcp.specs.declared.Message.the-variants as answer
 use Rattle.ipbcp.specs.Types.{headIn}
-use Rattle.ipbcp.specs.Reading.{Reading, refused, typed, described, finish, isDescribed, byHead, mostOctets, readMessage}
+use Rattle.ipbcp.specs.Reading.{Reading, refused, typed, described, finish, isDescribed, byHead, mostRead, readMessage}
 use Rattle.ipbcp.specs.Meaning.{readingIn}
 use Rattle.bearer.specs.declared.Heard.{Heard as Taken}
 use Rattle.bearer.specs.declared.Heard.the-variants as taken
@@ -34,14 +34,14 @@ data Told (m : List ℕ) : Reading → Type 0 where
   by-wrong : {k : Kind} → headIn m ≡ Typed 1 k → heard m ≡ heardBy (Typed 1 k) (refused 10) → Told m (refused 10)
   by-lines : {k : Kind} {a : Address} {s : Stream} → heard m ≡ heardBy (Typed 1 k) (described k a s) → Told m (described k a s)
 
-module _ (m : List ℕ) (short : length m ≤ mostOctets) where
+module _ (m : List ℕ) (short : length m ≤ mostRead) where
   read-by : (h : Head) → headIn m ≡ h → readMessage m ≡ byHead m h
   unfolding readMessage
-  read-by h e = rw (le-leb (length m) mostOctets short, e)
+  read-by h e = rw (le-leb (length m) mostRead short, e)
 
   heard-by : (h : Head) (r : Reading) → headIn m ≡ h → readMessage m ≡ r → heard m ≡ heardBy h r
   unfolding heard
-  heard-by h r e q = rw (le-leb (length m) mostOctets short, e, q)
+  heard-by h r e q = rw (le-leb (length m) mostRead short, e, q)
 
   told-finished : (k : Kind) (o : Option _) → headIn m ≡ Typed 1 k → readMessage m ≡ finish k o → Told m (finish k o)
   unfolding finish
@@ -66,9 +66,9 @@ module _ (m : List ℕ) (short : length m ≤ mostOctets) where
 told : (m : List ℕ) → Told m (readMessage m)
 unfolding readMessage heard
 told m =
-    by-le (length m) mostOctets _
+    by-le (length m) mostRead _
     (λ h. let e = read-by m h (headIn m) refl in rw e (told-head m h (headIn m) refl e))
-    (λ h. let z = lt-leb (length m) mostOctets h in rw z (by-none {n = 8} (λ k. omega arith) (rw z)))
+    (λ h. let z = lt-leb (length m) mostRead h in rw z (by-none {n = 8} (λ k. omega arith) (rw z)))
 
 -- ---- a message refused by 10; y is its version and type
 module _ (m : List ℕ) (ten : readMessage m ≡ refused 10) (y : Head) (is : y ≡ headIn m) where

@@ -15,8 +15,6 @@ use configuration::codecs::entry_at;
 use configuration::codecs::push_name;
 use configuration::codecs::suits_entry;
 use configuration::none_or_in_range;
-use media::Stream;
-use media::Texts;
 use octets::Span;
 use octets::append::push;
 
@@ -24,30 +22,19 @@ use octets::append::push;
 fn offer(port: u16, k: Codec, payload: u8, ptime: u8) -> Request
     ensures { λ r. ⌜ Offers port (codecBy k) payload ptime r ⌝ }
 {
+    let audio = Span { at: 0, len: 5 };
+    let rtp_avp = Span { at: 5, len: 7 };
+    let mut stream = media::bare(audio, port, rtp_avp, payload);
     let mut text = [0u8; MOST_OFFERED];
     let at = push(b"audioRTP/AVP", &mut text, 0);
     let end = push_name(k, &mut text, at);
-    let none = Span { at: 0, len: 0 };
-    Request {
-        stream: Stream {
-            media: Span { at: 0, len: 5 },
-            port,
-            transport: Span { at: 5, len: 7 },
-            payload,
-            rtpmap: Span {
-                at: 12,
-                len: end - at,
-            },
-            fmtp: Texts {
-                count: 0,
-                first: none,
-                second: none,
-                third: none,
-            },
-            ptime,
-        },
-        text,
-    }
+    let name = Span {
+        at: 12,
+        len: end - at,
+    };
+    stream.rtpmap = name;
+    stream.ptime = ptime;
+    Request { stream, text }
 }
 
 // The payload that a command names, which suits the entry k.

@@ -1,20 +1,20 @@
--- Laws of `gathered` and `filled`, one for each way that the loop of `gather` can go: each follows from what the next octet does to `before` and to `has`.
+-- Laws of `gathered` and of the buffer, one for each way that the loop of `gather` can go: each follows from what the next octet does to `before` and to `has`.
 -- Assumes nothing.
 use Prim.Native.Nat.{ℕ, suc, _+_, _-_, _≤_, _<_}
 use mathlib.Core.Path.{_≡_, refl, sym, ap, _∙_}
 use mathlib.Core.List.{List, [], _∷_}
 use mathlib.Core.Bool.{Bool, true, false, _||_, or-true, or-false}
 use lib.ListN.{length, getD, take, drop, set, length-set, drop-of-length-le}
-use lib.Dec.{ltb}
+use lib.Dec.{leb·suc-suc}
 use lib.Seq.{take-nil}
 use native.Mathlib.Omega.{arith}
 use borrow.Author.Tests.{eq-eqb, ne-eqb, lt-ltb, le-ltb}
 use Rattle.octets.specs.Split.{has, before}
-use Rattle.octets.proofs.CaseLaws.{by-lt}
+use Rattle.octets.specs.Append.{appended}
 use Rattle.octets.proofs.Laws.{next, put-nil, put-cons}
 use Rattle.octets.proofs.SplitLaws.{before-here, before-more}
 use Rattle.line_input.specs.declared.Gathered.{Gathered}
-use Rattle.line_input.specs.Gather.{gathered, filled, Gathers}
+use Rattle.line_input.specs.Gather.{gathered, Gathers}
 
 -- the answer, by its four parts
 abbrev pub told : ℕ → Bool → ℕ → Bool → Gathered
@@ -22,11 +22,6 @@ told n over i ended = record { len = n; over = over; next = i; ended = ended }
 
 same : (n n′ : ℕ) (o o′ : Bool) (i i′ : ℕ) (e e′ : Bool) → n ≡ n′ → o ≡ o′ → i ≡ i′ → e ≡ e′ → told n o i e ≡ told n′ o′ i′ e′
 same n n′ o o′ i i′ e e′ p q r s = rw (p, q, r, s)
-
--- a test of two numbers, each one more
-ltb-suc : (a b : ℕ) → ltb (suc a) (suc b) ≡ ltb a b
-ltb-suc a b =
-    by-lt a b _ (λ h. lt-ltb (suc a) (suc b) (omega arith) ∙ sym (lt-ltb a b h)) (λ h. le-ltb (suc a) (suc b) (omega arith) ∙ sym (le-ltb a b h))
 
 -- nothing is left of the part
 g-none : (i free n : ℕ) (over : Bool) → gathered [] i free n over ≡ told n over i false
@@ -45,7 +40,7 @@ g-store : (b : ℕ) (bs : List ℕ) (i free n : ℕ) (over : Bool) → (b ≡ 10
 unfolding gathered before has
 g-store b bs i free n over e =
     rw (ne-eqb b 10 e)
-    (same _ _ _ _ _ _ _ _ (omega arith) (ap (λ (z : Bool). over || z) (ltb-suc free (length (before 10 bs)))) (omega arith) refl)
+    (same _ _ _ _ _ _ _ _ (omega arith) (ap (λ (z : Bool). over || z) (leb·suc-suc (suc free) (length (before 10 bs)))) (omega arith) refl)
 
 -- the next octet finds no room
 g-skip : (b : ℕ) (bs : List ℕ) (i n : ℕ) (over : Bool) → (b ≡ 10 → ⊥) → gathered (b ∷ bs) i 0 n over ≡ gathered bs (i + 1) 0 n true
@@ -57,9 +52,9 @@ g-skip b bs i n over e =
 -- What is left of the part s stands at i, and n octets are in the buffer, which has l. The call was `gather(s, from, l₀, n₀, over₀)`.
 module _ (s l l₀ : List ℕ) (i n from n₀ : ℕ) (over over₀ : Bool)
     (inv : gathered (drop i s) i (length l - n) n over ≡ gathered (drop from s) from (length l₀ - n₀) n₀ over₀)
-    (buf : filled (drop i s) l n ≡ filled (drop from s) l₀ n₀) where
+    (buf : appended l n (before 10 (drop i s)) ≡ appended l₀ n₀ (before 10 (drop from s))) where
   pub at-none : length s ≤ i → Gathers s from l₀ n₀ over₀ (told n over i false) l
-  unfolding filled before
+  unfolding appended before
   at-none h =
       record {
         answers = sym (g-none i (length l - n) n over) ∙ ap (λ (z : List ℕ). gathered z i (length l - n) n over) (sym (drop-of-length-le s h)) ∙ inv;
@@ -69,11 +64,11 @@ module _ (s l l₀ : List ℕ) (i n from n₀ : ℕ) (over over₀ : Bool)
   here : i < length s → gathered (getD s i 0 ∷ drop (i + 1) s) i (length l - n) n over ≡ gathered (drop from s) from (length l₀ - n₀) n₀ over₀
   here h = ap (λ (z : List ℕ). gathered z i (length l - n) n over) (sym (next s i h)) ∙ inv
 
-  here-f : i < length s → filled (getD s i 0 ∷ drop (i + 1) s) l n ≡ filled (drop from s) l₀ n₀
-  here-f h = ap (λ (z : List ℕ). filled z l n) (sym (next s i h)) ∙ buf
+  here-f : i < length s → appended l n (before 10 (getD s i 0 ∷ drop (i + 1) s)) ≡ appended l₀ n₀ (before 10 (drop from s))
+  here-f h = ap (λ (z : List ℕ). appended l n (before 10 z)) (sym (next s i h)) ∙ buf
 
   pub at-lf : i < length s → getD s i 0 ≡ 10 → Gathers s from l₀ n₀ over₀ (told n over (i + 1) true) l
-  unfolding filled
+  unfolding appended
   at-lf h e =
       record {
         answers = sym (g-lf (getD s i 0) (drop (i + 1) s) i (length l - n) n over e) ∙ here h;
@@ -86,8 +81,8 @@ module _ (s l l₀ : List ℕ) (i n from n₀ : ℕ) (over over₀ : Bool)
       let free : length l - n ≡ suc (length l - (n + 1)) = omega arith in
       rw length-set (sym (g-store (getD s i 0) (drop (i + 1) s) i (length l - (n + 1)) n over e) ∙ rw free at here h)
 
-  pub at-store-f : i < length s → (getD s i 0 ≡ 10 → ⊥) → n < length l → filled (drop (i + 1) s) (set l n (getD s i 0)) (n + 1) ≡ filled (drop from s) l₀ n₀
-  unfolding filled
+  pub at-store-f : i < length s → (getD s i 0 ≡ 10 → ⊥) → n < length l → appended (set l n (getD s i 0)) (n + 1) (before 10 (drop (i + 1) s)) ≡ appended l₀ n₀ (before 10 (drop from s))
+  unfolding appended
   at-store-f h e k =
       let b = getD s i 0 in
       let bs = drop (i + 1) s in
@@ -100,8 +95,8 @@ module _ (s l l₀ : List ℕ) (i n from n₀ : ℕ) (over over₀ : Bool)
       let free : length l - n ≡ 0 = omega arith in
       rw free (sym (g-skip (getD s i 0) (drop (i + 1) s) i n over e) ∙ rw free at here h)
 
-  pub at-skip-f : i < length s → (getD s i 0 ≡ 10 → ⊥) → length l ≤ n → filled (drop (i + 1) s) l n ≡ filled (drop from s) l₀ n₀
-  unfolding filled
+  pub at-skip-f : i < length s → (getD s i 0 ≡ 10 → ⊥) → length l ≤ n → appended l n (before 10 (drop (i + 1) s)) ≡ appended l₀ n₀ (before 10 (drop from s))
+  unfolding appended
   at-skip-f h e k =
       let free : length l - n ≡ 0 = omega arith in
       rw free (rw free at here-f h)

@@ -10,13 +10,12 @@ use lib.Dec.{ltb}
 use native.Mathlib.Omega.{arith}
 use borrow.Author.Tests.{eq-eqb, ne-eqb, lt-ltb, le-ltb, le-leb, lt-leb}
 use Rattle.octets.specs.Split.{has, before, onFirst, splitOn}
-use Rattle.octets.specs.Append.{put}
+use Rattle.octets.specs.Append.{put, appended}
 use Rattle.octets.proofs.Laws.{length-put}
 use Rattle.octets.proofs.CaseLaws.{by-eq, by-lt}
-use Rattle.octets.proofs.SplitLaws.{split-some}
-use Rattle.octets.proofs.SplitLaws.{has-not}
+use Rattle.octets.proofs.SplitLaws.{split-some, has-not}
 use Rattle.line_input.specs.declared.Gathered.{Gathered}
-use Rattle.line_input.specs.Gather.{gathered, filled, Gathers}
+use Rattle.line_input.specs.Gather.{gathered, Gathers}
 use Rattle.line_input.specs.Whole.{Text, Held, Over, fit, fitAll, held, Fed}
 
 -- b put behind the last part
@@ -107,8 +106,8 @@ unfolding put
 take-put l p n h = take-at (take n l ++ p) (drop (n + length p) l) (n + length p) (rw length-append (omega (arith, length-take-le n l h)))
 
 holds-more : (l t p : List ℕ) (n : ℕ) → n ≤ length l → take n l ≡ t → length p ≤ length l - n
-    → held (put l n (take (length l - n) p)) (n + min (length l - n) (length p)) (ltb (length l - n) (length p)) ≡ fit (length l) (t ++ p)
-unfolding held
+    → held (appended l n p) (n + min (length l - n) (length p)) (ltb (length l - n) (length p)) ≡ fit (length l) (t ++ p)
+unfolding held appended
 holds-more l t p n h e k =
     let m : n + min (length l - n) (length p) ≡ n + length p = omega arith in
     let lt : length t ≡ n = ap (λ (z : List ℕ). length z) (sym e) ∙ length-take-le n l h in
@@ -116,7 +115,7 @@ holds-more l t p n h e k =
     (sym (fit-yes (length l) (t ++ p) (rw length-append (omega arith))))
 
 holds-past : (l t p : List ℕ) (n : ℕ) → n ≤ length l → take n l ≡ t → length l - n < length p
-    → held (put l n (take (length l - n) p)) (n + min (length l - n) (length p)) (ltb (length l - n) (length p)) ≡ fit (length l) (t ++ p)
+    → held (appended l n p) (n + min (length l - n) (length p)) (ltb (length l - n) (length p)) ≡ fit (length l) (t ++ p)
 unfolding held
 holds-past l t p n h e k =
     let lt : length t ≡ n = ap (λ (z : List ℕ). length z) (sym e) ∙ length-take-le n l h in
@@ -124,7 +123,7 @@ holds-past l t p n h e k =
     (sym (fit-no (length l) (t ++ p) (rw length-append (omega arith))))
 
 holds-after : (l t p : List ℕ) (n : ℕ) (over : Bool) → n ≤ length l → held l n over ≡ fit (length l) t
-    → held (put l n (take (length l - n) p)) (n + min (length l - n) (length p)) (over || ltb (length l - n) (length p)) ≡ fit (length l) (t ++ p)
+    → held (appended l n p) (n + min (length l - n) (length p)) (over || ltb (length l - n) (length p)) ≡ fit (length l) (t ++ p)
 unfolding held
 holds-after l t p n true h e = holds-over (length l) t p e
 holds-after l t p n false h e =
@@ -134,13 +133,13 @@ holds-after l t p n false h e =
 -- A call of `gather`: what it makes of what is held.
 module _ (part l f : List ℕ) (from n : ℕ) (over : Bool) (r : Gathered) (g : Gathers part from l n over r f) (h : n ≤ length l) where
   pub length-gathered : length f ≡ length l
-  unfolding filled
+  unfolding appended
   length-gathered =
       let p = take (length l - n) (before 10 (drop from part)) in
       ap (λ (z : List ℕ). length z) (g .leaves) ∙ length-put l n p (omega (arith, length-take (length l - n) (before 10 (drop from part))))
 
   pub held-gathered : (t : List ℕ) → held l n over ≡ fit (length l) t → held f (r .len) (r .over) ≡ fit (length l) (t ++ before 10 (drop from part))
-  unfolding filled gathered
+  unfolding gathered
   held-gathered t e = rw (g .answers, g .leaves) (holds-after l t (before 10 (drop from part)) n over h e)
 
 fit-snoc : (cap : ℕ) (ts : List (List ℕ)) (t : List ℕ) → fitAll cap (ts ++ (t ∷ [])) ≡ fitAll cap ts ++ (fit cap t ∷ [])

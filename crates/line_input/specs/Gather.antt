@@ -3,10 +3,10 @@ use Prim.Native.Nat.{ℕ, _+_, _-_, min}
 use mathlib.Core.Path.{_≡_}
 use mathlib.Core.List.{List}
 use mathlib.Core.Bool.{Bool, _||_, cond}
-use lib.ListN.{length, take, drop}
+use lib.ListN.{length, drop}
 use lib.Dec.{ltb}
 use Rattle.octets.specs.Split.{has, before}
-use Rattle.octets.specs.Append.{put}
+use Rattle.octets.specs.Append.{appended}
 use Rattle.line_input.specs.declared.Gathered.{Gathered}
 
 -- the answer, where s is what is left of the part, at position i, and the buffer has room for `free` octets behind the n in it
@@ -19,11 +19,7 @@ gathered s i free n over =
       ended = has 10 s;
     }
 
--- the buffer, where l was in it
-unfoldable pub filled : List ℕ → List ℕ → ℕ → List ℕ
-filled s l n = put l n (take (length l - n) (before 10 s))
-
 -- The call `gather(part, from, line, n, over)` answers r, and leaves f in the buffer in which l was.
 pub record Gathers (part : List ℕ) (from : ℕ) (l : List ℕ) (n : ℕ) (over : Bool) (r : Gathered) (f : List ℕ) : Type 0 where
   pub answers : r ≡ gathered (drop from part) from (length l - n) n over
-  pub leaves : f ≡ filled (drop from part) l n
+  pub leaves : f ≡ appended l n (before 10 (drop from part))

@@ -1,45 +1,28 @@
 -- The text of a media line and of each attribute, as it is written, is read as what it says: a token ends at the blank behind it,
 -- since it has none itself, and a number is read back from its digits.
 -- Assumes nothing.
-use Prim.Native.Nat.{ℕ, zero, suc, _+_, _/_, _%_, _≤_, _<_}
-use mathlib.Core.Path.{_≡_, refl, sym, _∙_}
+use Prim.Native.Nat.{ℕ, _+_, _≤_, _<_}
+use mathlib.Core.Path.{_≡_, refl, _∙_, ap}
 use mathlib.Core.List.{List, [], _∷_, _++_}
-use mathlib.Core.Bool.{true, false, _||_, or-assoc}
+use mathlib.Core.Bool.{false}
 use mathlib.Core.Option.{some}
 use lib.ListN.{length}
 use lib.Seq.{drop-append-add}
-use lib.Dec.{eqb}
 use native.Mathlib.Omega.{arith}
-use borrow.Author.Tests.{lt-ltb, le-leb, eq-eqb, ne-eqb}
+use borrow.Author.Tests.{lt-ltb, le-leb, eq-eqb}
 use Rattle.octets.specs.Append.{widthFrom, numberText}
-use Rattle.octets.specs.Decimal.{lastDigits, onNumber}
-use Rattle.octets.specs.Split.{has, before, onFirst, splitOn, partOf}
+use Rattle.octets.specs.Decimal.{onNumber, isDigit}
+use Rattle.octets.specs.Split.{has, before, splitOn, partOf}
 use Rattle.octets.specs.Words.{begins}
 use Rattle.octets.proofs.AppendLaws.{width-one, width-suc, length-last}
 use Rattle.octets.proofs.CaseLaws.{by-lt}
-use Rattle.octets.proofs.RoundTrip.{number-back}
-use Rattle.octets.proofs.SplitLaws.{before-here, before-more, split-here, split-more, split-last, has-not}
+use Rattle.octets.proofs.RoundTrip.{number-back, number-has}
+use Rattle.octets.proofs.SplitLaws.{before-here, before-more, has-cons, split-append, split-whole}
 use Rattle.texts.specs.Tokens.{noneEmpty, tokenCount, behindBlank}
 use Rattle.media.specs.Stream.{Stream, bareStream, rtpmapWord, fmtpWord, ptimeWord, mediaText}
 use Rattle.media.specs.Attributes.{mediaOf, fitting, withRtpmap, withFmtp, withPtime, rtpmapOf, fmtpOf, ptimeOf, attributeOf}
 
 -- ---- a number's text
-has-append : (c : ℕ) (xs ys : List ℕ) → has c (xs ++ ys) ≡ (has c xs || has c ys)
-unfolding has
-has-append c [] ys = refl
-has-append c (x ∷ xs) ys = rw (has-append c xs ys) (sym (or-assoc (eqb x c) (has c xs) (has c ys)))
-
-has-last : (k n c : ℕ) → c ≤ 47 → has c (lastDigits k n) ≡ false
-unfolding lastDigits has
-has-last zero n c h = refl
-has-last (suc k) n c h =
-    rw (has-append c (lastDigits k (n / 10)) ((48 + n % 10) ∷ []), has-last k (n / 10) c h, ne-eqb (48 + n % 10) c (omega arith))
-
--- it has no octet below '0'
-pub number-has : (n c : ℕ) → c ≤ 47 → has c (numberText n) ≡ false
-unfolding numberText
-number-has n c h = has-last (widthFrom 19 n) n c h
-
 pub number-some : (n : ℕ) → 0 < length (numberText n)
 unfolding numberText
 number-some n =
@@ -47,32 +30,10 @@ number-some n =
     (by-lt n 10 _ (λ h. rw (width-one 19 n h) (omega arith)) (λ h. rw (width-suc 18 n h) (omega arith)))
 
 -- ---- what stands before and behind an octet c, where xs has none
-has-off : (c b : ℕ) (bs : List ℕ) → has c (b ∷ bs) ≡ false → b ≡ c → ⊥
-unfolding has
-has-off c b bs h e =
-    let k : true ≡ false = rw (eq-eqb b c e) at h in
-    let z : _≡_ {A = ℕ} 0 1 = cc in
-    omega arith
-
-has-rest : (c b : ℕ) (bs : List ℕ) → has c (b ∷ bs) ≡ false → has c bs ≡ false
-unfolding has
-has-rest c b bs h = rw (ne-eqb b c (has-off c b bs h)) at h
-
 before-append : (c : ℕ) (xs ys : List ℕ) → has c xs ≡ false → before c (xs ++ (c ∷ ys)) ≡ xs
 before-append c [] ys h = before-here c c ys refl
 before-append c (b ∷ bs) ys h =
-    rw (before-more c b (bs ++ (c ∷ ys)) (has-off c b bs h), before-append c bs ys (has-rest c b bs h))
-
-split-append : (c : ℕ) (xs ys : List ℕ) → has c xs ≡ false → splitOn c (xs ++ (c ∷ ys)) ≡ xs ∷ splitOn c ys
-unfolding onFirst
-split-append c [] ys h = split-here c c ys refl
-split-append c (b ∷ bs) ys h =
-    rw (split-more c b (bs ++ (c ∷ ys)) (has-off c b bs h), split-append c bs ys (has-rest c b bs h))
-
-pub split-whole : (c : ℕ) (xs : List ℕ) → has c xs ≡ false → splitOn c xs ≡ xs ∷ []
-split-whole c xs h =
-    let e : before c xs ≡ xs = has-not c xs h in
-    split-last c xs (rw e (omega arith)) ∙ rw e
+    has-cons c b bs _ h (λ e r. before-more c b (bs ++ (c ∷ ys)) e ∙ ap (λ (l : List ℕ). b ∷ l) (before-append c bs ys r))
 
 behind-append : (xs ys : List ℕ) → has 32 xs ≡ false → behindBlank (xs ++ (32 ∷ ys)) ≡ ys
 unfolding behindBlank
@@ -81,12 +42,12 @@ behind-append xs ys h = rw (before-append 32 xs ys h) (drop-append-add xs (32 �
 -- ---- the media line
 module _ (s : Stream) (a : has 32 (s .media) ≡ false) (b : has 32 (s .transport) ≡ false) where
   media-split : splitOn 32 (mediaText s) ≡ s .media ∷ numberText (s .port) ∷ s .transport ∷ numberText (s .payload) ∷ []
-  unfolding mediaText
+  unfolding mediaText isDigit
   media-split =
       rw (split-append 32 (s .media) (numberText (s .port) ++ (32 ∷ (s .transport ++ (32 ∷ numberText (s .payload))))) a)
-      (rw (split-append 32 (numberText (s .port)) (s .transport ++ (32 ∷ numberText (s .payload))) (number-has (s .port) 32 (omega arith)))
+      (rw (split-append 32 (numberText (s .port)) (s .transport ++ (32 ∷ numberText (s .payload))) (number-has 32 (s .port) refl))
       (rw (split-append 32 (s .transport) (numberText (s .payload)) b)
-      (rw (split-whole 32 (numberText (s .payload)) (number-has (s .payload) 32 (omega arith))))))
+      (rw (split-whole 32 (numberText (s .payload)) (number-has 32 (s .payload) refl)))))
 
   pub media-back : 0 < length (s .media) → 0 < length (s .transport) → 1 ≤ s .port → s .port ≤ 65535 → s .payload ≤ 127
       → mediaOf (mediaText s) ≡ some (bareStream (s .media) (s .port) (s .transport) (s .payload))
@@ -107,9 +68,9 @@ module _ (s : Stream) (a : has 32 (s .media) ≡ false) (b : has 32 (s .transpor
 -- ---- the attributes
 pub rtpmap-back : (s : Stream) (text : List ℕ) → s .rtpmap ≡ [] → 0 < length text → s .payload ≤ 127
     → attributeOf s (rtpmapWord ++ (numberText (s .payload) ++ (32 ∷ text))) ≡ fitting (withRtpmap text s)
-unfolding attributeOf begins rtpmapOf partOf onNumber
+unfolding attributeOf begins rtpmapOf partOf onNumber isDigit
 rtpmap-back s text e p k =
-    let h : has 32 (numberText (s .payload)) ≡ false = number-has (s .payload) 32 (omega arith) in
+    let h : has 32 (numberText (s .payload)) ≡ false = number-has 32 (s .payload) refl in
     rw (e, split-append 32 (numberText (s .payload)) text h)
     (simp (
       number-back (s .payload) (omega arith),

@@ -87,7 +87,7 @@ module _ (m : List ℕ) (x : Texts) where
 pub ruleset fmtps = (fmtps-0, fmtps-1, fmtps-2, fmtps-3)
 
 -- ---- all of them together
-together-append : (xs ys : List (List ℕ)) → octetsTogether (xs ++ ys) ≡ octetsTogether xs + octetsTogether ys
+pub together-append : (xs ys : List (List ℕ)) → octetsTogether (xs ++ ys) ≡ octetsTogether xs + octetsTogether ys
 unfolding octetsTogether
 together-append [] ys = omega arith
 together-append (x ∷ xs) ys = rw (together-append xs ys) (omega arith)

@@ -2,7 +2,7 @@
 -- their values, and a stored span stands for the text that the definition has.
 -- Assumes nothing.
 use Prim.Native.Nat.{ℕ, _≤_}
-use mathlib.Core.Path.{_≡_, sym, ap, _∙_}
+use mathlib.Core.Path.{_≡_, sym, ap, _∙_, refl}
 use mathlib.Core.List.{List, [], _∷_, _++_}
 use mathlib.Core.Bool.{Bool, true, false}
 use mathlib.Core.Option.{Option, some}
@@ -22,7 +22,7 @@ use Rattle.media.specs.declared.Stream.{Stream as Places}
 use Rattle.media.specs.declared.Taken.the-variants.{Stream as TakenStream, Wrong}
 use Rattle.media.specs.Stream.{Stream, bareStream, rtpmapWord, fmtpWord, ptimeWord}
 use Rattle.media.specs.Attributes.{fitting, withRtpmap, withFmtp, mediaOf, rtpmapOf, fmtpOf, ptimeOf, attributeOf}
-use Rattle.media.specs.Meaning.{spansOf, textsBy, streamBy, takenBy}
+use Rattle.media.specs.Meaning.{spansOf, textsBy, streamBy, takenBy, barePlaces}
 use Rattle.media.proofs.TextsLaws.{map-snoc}
 
 -- ---- the media line
@@ -34,20 +34,15 @@ module _ (n : ℕ) (t : List ℕ) (e : n ≡ tokenCount t) where
   pub not-four : (n ≡ 4 → ⊥) → eqb (tokenCount t) 4 ≡ false
   not-four h = rw (← e) (ne-eqb n 4 h)
 
--- the stream of a media line with the media a, at sp, and the transport b, at r
-pub media-stored : (m : List ℕ) (sp r : Span) (a b : List ℕ) (port payload : ℕ) → textOf m sp ≡ a → textOf m r ≡ b
-    → streamBy m (record {
-      media = sp;
-      port = port;
-      transport = r;
-      payload = payload;
-      rtpmap = record { at = 0; len = 0 };
-      fmtp = record { count = 0; first = record { at = 0; len = 0 }; second = record { at = 0; len = 0 }; third = record { at = 0; len = 0 } };
-      ptime = 0;
-    })
-    ≡ bareStream a port b payload
+-- what a stream without attributes says
+pub bare-says : (m : List ℕ) (sp r : Span) (port payload : ℕ) → streamBy m (barePlaces sp port r payload) ≡ bareStream (textOf m sp) port (textOf m r) payload
 unfolding streamBy textsBy spansOf textOf
-media-stored m sp r a b port payload p q = rw (p, q)
+bare-says m sp r port payload = refl
+
+-- the stream y of a media line with the media a, at sp, and the transport b, at r
+pub media-stored : (m : List ℕ) (sp r : Span) (a b : List ℕ) (port payload : ℕ) (y : Places) → y ≡ barePlaces sp port r payload → textOf m sp ≡ a → textOf m r ≡ b
+    → streamBy m y ≡ bareStream a port b payload
+media-stored m sp r a b port payload y e p q = rw (e, ← p, ← q) (bare-says m sp r port payload)
 
 -- a media line with its four tokens, and its stream y
 pub media-read : (m t : List ℕ) (n : ℕ) (z w : Number) (port payload : ℕ) (y : Places)
@@ -111,17 +106,17 @@ module _ (m a : List ℕ) (v : Span) (st : Stream) (y : Option Stream) (e : a �
   behind n w p = p ∙ ap (drop n) (sym e)
 
   module _ (i : Bool) (f : i ≡ begins rtpmapWord a) where
-    pub by-rtpmap : (w : Span) (t : List ℕ) → i ≡ true → textOf m w ≡ drop 7 (textOf m v) → t ≡ textOf m w → y ≡ rtpmapOf st t → y ≡ attributeOf st (textOf m v)
+    pub by-rtpmap : (w : Span) (t : List ℕ) → i ≡ true → textOf m w ≡ drop (length rtpmapWord) (textOf m v) → t ≡ textOf m w → y ≡ rtpmapOf st t → y ≡ attributeOf st (textOf m v)
     unfolding attributeOf
-    by-rtpmap w t h p q r = rw (← e, ← f, h) (r ∙ ap (rtpmapOf st) (q ∙ behind 7 w p))
+    by-rtpmap w t h p q r = rw (← e, ← f, h) (r ∙ ap (rtpmapOf st) (q ∙ behind (length rtpmapWord) w p))
 
     module _ (h : i ≡ false) (j : Bool) (g : j ≡ begins fmtpWord a) where
-      pub by-fmtp : (w : Span) → j ≡ true → textOf m w ≡ drop 5 (textOf m v) → y ≡ fmtpOf st (textOf m w) → y ≡ attributeOf st (textOf m v)
+      pub by-fmtp : (w : Span) → j ≡ true → textOf m w ≡ drop (length fmtpWord) (textOf m v) → y ≡ fmtpOf st (textOf m w) → y ≡ attributeOf st (textOf m v)
       unfolding attributeOf
-      by-fmtp w k p r = rw (← e, ← f, h, ← g, k) (r ∙ ap (fmtpOf st) (behind 5 w p))
+      by-fmtp w k p r = rw (← e, ← f, h, ← g, k) (r ∙ ap (fmtpOf st) (behind (length fmtpWord) w p))
 
       module _ (k : j ≡ false) (o : Bool) (u : o ≡ begins ptimeWord a) where
-        pub by-ptime : (t : List ℕ) → o ≡ true → t ≡ drop 6 a → y ≡ ptimeOf st t → y ≡ attributeOf st (textOf m v)
+        pub by-ptime : (t : List ℕ) → o ≡ true → t ≡ drop (length ptimeWord) a → y ≡ ptimeOf st t → y ≡ attributeOf st (textOf m v)
         unfolding attributeOf
         by-ptime t l q r = rw (← e, ← f, h, ← g, k, ← u, l) (r ∙ ap (ptimeOf st) q)
 

@@ -1,5 +1,5 @@
 -- Document 01, "Message, version 1": how a media line and the attributes behind it are read, by what stands behind `m=` and
--- `a=`. Nothing is what makes the message wrong (number 10).
+-- `a=`. `none` means that the message is wrong (number 10).
 use Prim.Native.Nat.{ℕ}
 use mathlib.Core.List.{List, [], _∷_, _++_}
 use mathlib.Core.Bool.{Bool, _&&_, _||_, cond}
@@ -88,6 +88,6 @@ isAttribute a = begins rtpmapWord a || (begins fmtpWord a || begins ptimeWord a)
 -- `a=` behind the media line; other attributes are skipped
 unfoldable pub attributeOf : Stream → List ℕ → Option Stream
 attributeOf s a =
-    cond (begins rtpmapWord a) (rtpmapOf s (drop 7 a))
-    (cond (begins fmtpWord a) (fmtpOf s (drop 5 a))
-    (cond (begins ptimeWord a) (ptimeOf s (drop 6 a)) (some s)))
+    cond (begins rtpmapWord a) (rtpmapOf s (drop (length rtpmapWord) a))
+    (cond (begins fmtpWord a) (fmtpOf s (drop (length fmtpWord) a))
+    (cond (begins ptimeWord a) (ptimeOf s (drop (length ptimeWord) a)) (some s)))

@@ -33,6 +33,18 @@ streamBy m s = record {
   ptime = s .ptime;
 }
 
+-- a media line with these places, and no attribute behind it
+abbrev pub barePlaces : Span → ℕ → Span → ℕ → Places
+barePlaces media port transport payload = record {
+  media = media;
+  port = port;
+  transport = transport;
+  payload = payload;
+  rtpmap = record { at = 0; len = 0 };
+  fmtp = record { count = 0; first = record { at = 0; len = 0 }; second = record { at = 0; len = 0 }; third = record { at = 0; len = 0 } };
+  ptime = 0;
+}
+
 unfoldable pub takenBy : List ℕ → Taken → Option Stream
 takenBy m (TakenStream s) = some (streamBy m s)
 takenBy m Wrong = none

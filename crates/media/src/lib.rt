@@ -9,7 +9,7 @@ ghost use Rattle.octets.specs.Spans.{textOf};
 ghost use Rattle.texts.specs.Tokens.{token};
 ghost use Rattle.media.specs.Stream.{bareStream};
 ghost use Rattle.media.specs.Attributes.{mediaOf, isAttribute, attributeOf};
-ghost use Rattle.media.specs.Meaning.{streamBy, takenBy};
+ghost use Rattle.media.specs.Meaning.{streamBy, barePlaces, takenBy};
 use octets::Number;
 use octets::Span;
 use octets::decimal::read_number;
@@ -51,6 +51,27 @@ pub enum Taken {
     Wrong,
 }
 
+// A stream with these texts and numbers, and no attribute.
+pub fn bare(media: Span, port: u16, transport: Span, payload: u8) -> Stream
+    ensures { λ r. ⌜ r ≡ barePlaces media port transport payload ⌝ }
+{
+    let none = Span { at: 0, len: 0 };
+    Stream {
+        media,
+        port,
+        transport,
+        payload,
+        rtpmap: none,
+        fmtp: Texts {
+            count: 0,
+            first: none,
+            second: none,
+            third: none,
+        },
+        ptime: 0,
+    }
+}
+
 // The number that the k-th token of t stands for.
 pub(crate) fn token_number(t: &[u8], k: usize) -> Number
     ensures { λ r. ⌜ r ≡ readNumber (token k (now (t .entry))) ⌝ }
@@ -73,21 +94,7 @@ fn bare_stream(m: &[u8], v: Span, t: &[u8], port: u16, payload: u8) -> Stream
 {
     let media = token_place(m, v, t, 0);
     let transport = token_place(m, v, t, 2);
-    let none = Span { at: 0, len: 0 };
-    Stream {
-        media,
-        port,
-        transport,
-        payload,
-        rtpmap: none,
-        fmtp: Texts {
-            count: 0,
-            first: none,
-            second: none,
-            third: none,
-        },
-        ptime: 0,
-    }
+    bare(media, port, transport, payload)
 }
 
 // Reads the media line t, the text of v in m.

@@ -85,15 +85,12 @@ module _ (m l f : List ℕ) (x : Texts) (at r : ℕ) where
 pub ruleset joins = (texts-none, texts-one, texts-two, texts-three)
 
 -- ---- a length
-both : (a b : Bool) → (a && b) ≡ true → (a ≡ true) × (b ≡ true)
-both a b h = let k = and-eq-true-iff a b .0 h in (k .0, k .1)
-
 short-small : (t : List ℕ) → length t < 2 → shortest t ≡ true → allDigits t ≡ true → valueFrom 0 t ≤ 65535
 unfolding shortest allDigits isDigit valueFrom
 short-small [] h s d = omega arith
 short-small (b ∷ []) h s d =
-    let a = both (leb 48 b && leb b 57) true d .0 in
-    omega (arith, leb-true b 57 (both (leb 48 b) (leb b 57) a .1))
+    let a = and-eq-true-iff (leb 48 b && leb b 57) true .0 d .0 in
+    omega (arith, leb-true b 57 (and-eq-true-iff (leb 48 b) (leb b 57) .0 a .1))
 short-small (b ∷ c ∷ t) h s d = absurd (omega arith)
 
 module _ (t : List ℕ) where

@@ -5,49 +5,29 @@ use mathlib.Core.Path.{_≡_, refl, sym, ap, _∙_}
 use mathlib.Core.List.{List, [], _∷_}
 use mathlib.Core.Bool.{Bool, true, false, _&&_, and-true, and-false, and-eq-true-iff}
 use lib.ListN.{length, getD, take, drop, set, length-set, length-drop}
-use lib.Dec.{leb, eqb}
+use lib.Dec.{leb, eqb, leb·suc-suc}
 use lib.Seq.{take-nil, take-at}
 use native.Mathlib.Omega.{arith}
-use borrow.Author.Tests.{lt-ltb, le-ltb, le-leb, lt-leb, eq-eqb, leb-true}
+use borrow.Author.Tests.{le-leb, lt-leb, eq-eqb, leb-true}
 use Rattle.octets.specs.Append.{put, nextOf, appended, Appends}
-use Rattle.octets.specs.Hex.{isHexDigit, hexValue, allHex, isHex, octetsOf}
-use Rattle.octets.proofs.CaseLaws.{by-bool, by-le}
+use Rattle.octets.specs.Hex.{isHexDigit, hexValue, allHex, isHex, octetsOf, Valued}
+use Rattle.octets.proofs.CaseLaws.{by-bool}
 use Rattle.octets.proofs.Laws.{next, put-nil, put-cons}
 use Rattle.octets.proofs.AppendLaws.{append-room}
 use Rattle.octets.proofs.HexLaws.{valued, length-octets}
 use Rattle.notation.specs.Notation.{digitIn, octetsBefore, ReadsOctets}
 
 -- ---- a digit
-module _ (b : ℕ) where
-  pub digit-low : b < 48 → 16 ≡ digitIn b
-  unfolding digitIn isHexDigit
-  digit-low h = rw (lt-ltb b 48 h)
+module _ (b : ℕ) (t : Bool) (is : t ≡ isHexDigit b) where
+  pub digit-yes : (a : ℕ) → t ≡ true → Valued b a → a ≡ digitIn b
+  unfolding digitIn
+  digit-yes a h v = rw (← is, h) (v .is)
 
-  pub digit-decimal : 48 ≤ b → b ≤ 57 → b - 48 ≡ digitIn b
-  unfolding digitIn isHexDigit hexValue
-  digit-decimal h k = rw (le-ltb b 48 h, le-leb b 57 k)
+  pub digit-no : t ≡ false → 16 ≡ digitIn b
+  unfolding digitIn
+  digit-no h = rw (← is, h)
 
-  pub digit-between : 48 ≤ b → 57 < b → b < 65 → 16 ≡ digitIn b
-  unfolding digitIn isHexDigit
-  digit-between h k l = rw (le-ltb b 48 h, lt-leb b 57 k, lt-ltb b 65 l)
-
-  pub digit-upper : 48 ≤ b → 57 < b → 65 ≤ b → b ≤ 70 → b - 55 ≡ digitIn b
-  unfolding digitIn isHexDigit hexValue
-  digit-upper h k l m = rw (le-ltb b 48 h, lt-leb b 57 k, le-ltb b 65 l, le-leb b 70 m)
-
-  pub digit-gap : 48 ≤ b → 57 < b → 65 ≤ b → 70 < b → b < 97 → 16 ≡ digitIn b
-  unfolding digitIn isHexDigit
-  digit-gap h k l m n = rw (le-ltb b 48 h, lt-leb b 57 k, le-ltb b 65 l, lt-leb b 70 m, lt-leb 97 b n)
-
-  pub digit-lower : 48 ≤ b → 57 < b → 65 ≤ b → 70 < b → 97 ≤ b → b ≤ 102 → b - 87 ≡ digitIn b
-  unfolding digitIn isHexDigit hexValue
-  digit-lower h k l m n o = rw (le-ltb b 48 h, lt-leb b 57 k, le-ltb b 65 l, lt-leb b 70 m, le-leb 97 b n, le-leb b 102 o, le-ltb b 97 n)
-
-  pub digit-high : 48 ≤ b → 57 < b → 65 ≤ b → 70 < b → 97 ≤ b → 102 < b → 16 ≡ digitIn b
-  unfolding digitIn isHexDigit
-  digit-high h k l m n o = rw (le-ltb b 48 h, lt-leb b 57 k, le-ltb b 65 l, lt-leb b 70 m, le-leb 97 b n, lt-leb b 102 o)
-
-pub ruleset digits = (digit-low, digit-decimal, digit-between, digit-upper, digit-gap, digit-lower, digit-high)
+pub ruleset digits = (digit-yes, digit-no)
 
 module _ (b a : ℕ) (e : a ≡ digitIn b) where
   none-digit : 15 < a → isHexDigit b ≡ false
@@ -68,12 +48,6 @@ two : (t : List ℕ) (j : ℕ) → j < length t / 2 → drop (j + j) t ≡ getD 
 two t j h =
     let e : j + j + 1 + 1 ≡ j + 1 + (j + 1) = omega arith in
     next t (j + j) (omega arith) ∙ ap (λ (z : List ℕ). getD t (j + j) 0 ∷ z) (next t (j + j + 1) (omega arith) ∙ rw e)
-
-leb-suc : (a b : ℕ) → leb (suc a) (suc b) ≡ leb a b
-leb-suc a b =
-    by-le a b _
-    (λ h. rw (le-leb a b h, le-leb (suc a) (suc b) (omega arith)))
-    (λ h. rw (lt-leb a b h, lt-leb (suc a) (suc b) (omega arith)))
 
 append-none : (l : List ℕ) (j : ℕ) → appended l j [] ≡ l
 unfolding appended
@@ -128,7 +102,7 @@ module _ (t l₀ l : List ℕ) (j : ℕ)
             let odd : suc (suc n) % 2 ≡ n % 2 = omega arith in
             let half : suc (suc n) / 2 ≡ suc (n / 2) = omega arith in
             let less : length l - j ≡ suc (length l - (j + 1)) = omega arith in
-            rw length-set (rw (two t j h, ha, hb, odd, half, less, leb-suc (n / 2) (length l - (j + 1))) at ans)
+            rw length-set (rw (two t j h, ha, hb, odd, half, less, leb·suc-suc (n / 2) (length l - (j + 1))) at ans)
 
         pub octets-turn-f : appended (set l j (a * 16 + b)) (j + 1) (octetsBefore (drop (j + 1 + (j + 1)) t)) ≡ appended l₀ 0 (octetsBefore t)
         unfolding appended octetsBefore
@@ -163,26 +137,23 @@ octets-start t l = let z : length l - 0 ≡ length l = omega arith in rw z
 pub ruleset readings = (octets-start, octets-full, octets-first, octets-second, octets-done)
 
 -- ---- what the answer says
-both : (a b : Bool) → (a && b) ≡ true → (a ≡ true) × (b ≡ true)
-both a b h = let k = and-eq-true-iff a b .0 h in (k .0, k .1)
-
 before-all : (t : List ℕ) → allHex t ≡ true → octetsBefore t ≡ octetsOf t
 unfolding allHex octetsBefore octetsOf
 before-all [] h = refl
 before-all (a ∷ []) h = refl
 before-all (a ∷ b ∷ t) h =
-    let (p, q) = both (isHexDigit a) (isHexDigit b && allHex t) h in
-    let (r, u) = both (isHexDigit b) (allHex t) q in
+    let (p, q) = and-eq-true-iff (isHexDigit a) (isHexDigit b && allHex t) .0 h in
+    let (r, u) = and-eq-true-iff (isHexDigit b) (allHex t) .0 q in
     rw (p, r) (ap (λ (z : List ℕ). (hexValue a * 16 + hexValue b) ∷ z) (before-all t u))
 
 -- the octets were read
 pub read-back : (t l f : List ℕ) → ReadsOctets t l true f → (isHex t ≡ true) × (take (length t / 2) f ≡ octetsOf t)
 unfolding isHex put
 read-back t l f r =
-    let (h, k) = both (isHex t) (leb (length t / 2) (length l)) (sym (r .answers)) in
+    let (h, k) = and-eq-true-iff (isHex t) (leb (length t / 2) (length l)) .0 (sym (r .answers)) in
     let m = leb-true (length t / 2) (length l) k in
     let n = length-octets t (length t / 2) refl in
-    let x : octetsBefore t ≡ octetsOf t = before-all t (both (eqb (length t % 2) 0) (allHex t) h .1) in
+    let x : octetsBefore t ≡ octetsOf t = before-all t (and-eq-true-iff (eqb (length t % 2) 0) (allHex t) .0 h .1) in
     let a : Appends l 0 (octetsOf t) (nextOf (length l) 0 (octetsOf t)) f = record { next = refl; leaves = rw (← x) (r .leaves) } in
     let (e, g) = append-room l f 0 (octetsOf t) _ a (omega arith) in
     (h, rw (g, ← n) (take-at (octetsOf t) (drop (0 + length (octetsOf t)) l) (length (octetsOf t)) refl))

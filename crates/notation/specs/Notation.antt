@@ -40,7 +40,7 @@ refusedShown n = (114 ∷ 101 ∷ 102 ∷ 117 ∷ 115 ∷ 101 ∷ 100 ∷ 45 ∷
 unfoldable pub digitIn : ℕ → ℕ
 digitIn b = cond (isHexDigit b) (hexValue b) 16
 
--- the octets of the pairs before the first that is none
+-- the octets of the pairs in front of the first that is not two digits
 unfoldable pub octetsBefore : List ℕ → List ℕ
 octetsBefore [] = []
 octetsBefore (a ∷ []) = []

@@ -12,6 +12,8 @@ use octets::append::push;
 use octets::append::push_number;
 use octets::append::push_octet;
 use octets::decimal::read_number;
+use octets::hex::hex_value;
+use octets::hex::is_hex_digit;
 use octets::hex::push_hex;
 use octets::spans::text;
 use octets::words::digit_run;
@@ -51,7 +53,7 @@ fn push_next(m: &[u8], sp: Span, out: &mut [u8], at: usize) -> usize
     push_span(m, sp, out, k)
 }
 
-// Appends two texts so.
+// Appends two texts, a comma before each.
 fn push_both(m: &[u8], a: Span, b: Span, out: &mut [u8], at: usize) -> usize
     ensures { λ r. ⌜ Appends (now (out .entry)) at ((44 ∷ textShown (textOf (now (m .entry)) a)) ++ (44 ∷ textShown (textOf (now (m .entry)) b))) r (now (out .exit)) ⌝ }
 {
@@ -92,23 +94,8 @@ pub fn push_refused(n: u8, out: &mut [u8], at: usize) -> usize
 fn digit(b: u8) -> u8
     ensures { λ r. ⌜ r ≡ digitIn b ⌝ }
 {
-    if b < 48 {
-        return 16;
-    }
-    if b <= 57 {
-        return b - 48;
-    }
-    if b < 65 {
-        return 16;
-    }
-    if b <= 70 {
-        return b - 55;
-    }
-    if b < 97 {
-        return 16;
-    }
-    if b <= 102 {
-        return b - 87;
+    if is_hex_digit(b) {
+        return hex_value(b);
     }
     16
 }

@@ -25,7 +25,8 @@ from-high : (n b : ℕ) (bs : List ℕ) → 57 < b → numberFrom n (b ∷ bs) �
 unfolding numberFrom allDigits isDigit
 from-high n b bs p = simp (le-leb 48 b (omega arith), lt-leb b 57 p)
 
-value-grows : (n : ℕ) (s : List ℕ) → n ≤ valueFrom n s
+-- more digits make no number smaller
+pub value-grows : (n : ℕ) (s : List ℕ) → n ≤ valueFrom n s
 unfolding valueFrom
 value-grows n [] = le-refl n
 value-grows n (b ∷ bs) = le-trans (omega arith) (value-grows (n * 10 + (b - 48)) bs)

@@ -3,7 +3,7 @@
 use Prim.Native.Nat.{ℕ, zero, suc, _+_, _-_, _*_, _/_, _%_, _^_, _≤_, _<_}
 use mathlib.Core.Path.{_≡_, refl, sym, ap, _∙_}
 use mathlib.Core.List.{List, [], _∷_, _++_}
-use mathlib.Core.Bool.{Bool, true, _&&_, and-true, and-assoc}
+use mathlib.Core.Bool.{Bool, true, false, _&&_, true≢false, and-true, and-assoc, and-eq-true-iff}
 use lib.ListN.{length, getD}
 use native.Mathlib.Nat.{pow-suc}
 use native.Mathlib.Omega.{arith}
@@ -12,7 +12,8 @@ use Rattle.octets.specs.declared.Number.the-variants.{Value}
 use Rattle.octets.specs.Append.{widthFrom, numberText}
 use Rattle.octets.specs.Decimal.{isDigit, allDigits, valueFrom, shortest, numberFrom, readNumber, lastDigits}
 use Rattle.octets.specs.Hex.{hexValue, octetsOf, hexDigit, hexText}
-use Rattle.octets.proofs.CaseLaws.{by-lt}
+use Rattle.octets.specs.Split.{has}
+use Rattle.octets.proofs.CaseLaws.{by-eq, by-lt}
 use Rattle.octets.proofs.AppendLaws.{width-one, width-suc}
 
 all-snoc : (xs : List ℕ) (b : ℕ) → allDigits (xs ++ (b ∷ [])) ≡ (allDigits xs && isDigit b)
@@ -24,6 +25,20 @@ pub all-last : (k n : ℕ) → allDigits (lastDigits k n) ≡ true
 unfolding lastDigits allDigits isDigit
 all-last zero n = refl
 all-last (suc k) n = simp (all-snoc, all-last k (n / 10), le-leb 48 (48 + n % 10) (omega arith), le-leb (48 + n % 10) 57 (omega arith))
+
+-- an octet that is no digit is not among digits
+digits-has : (c : ℕ) (s : List ℕ) → isDigit c ≡ false → allDigits s ≡ true → has c s ≡ false
+unfolding has allDigits
+digits-has c [] n e = refl
+digits-has c (b ∷ bs) n e =
+    let (p, q) = and-eq-true-iff (isDigit b) (allDigits bs) .0 e in
+    by-eq b c _
+    (λ z. absurd (true≢false (sym p ∙ ap isDigit z ∙ n)))
+    (λ z. rw (ne-eqb b c z) (digits-has c bs n q))
+
+pub number-has : (c n : ℕ) → isDigit c ≡ false → has c (numberText n) ≡ false
+unfolding numberText
+number-has c n e = digits-has c (numberText n) e (all-last (widthFrom 19 n) n)
 
 value-snoc : (m : ℕ) (xs : List ℕ) (b : ℕ) → valueFrom m (xs ++ (b ∷ [])) ≡ valueFrom m xs * 10 + (b - 48)
 unfolding valueFrom

@@ -2,8 +2,8 @@
 -- Assumes nothing.
 use Prim.Native.Nat.{ℕ, suc, _+_, _-_, _≤_, _<_}
 use mathlib.Core.Path.{_≡_, refl, ap, _∙_}
-use mathlib.Core.List.{List, [], _∷_}
-use mathlib.Core.Bool.{true, false}
+use mathlib.Core.List.{List, [], _∷_, _++_}
+use mathlib.Core.Bool.{true, false, true≢false}
 use lib.ListN.{length, getD, take, drop, length-drop, drop-of-length-le}
 use lib.Seq.{drop-drop}
 use native.Mathlib.Nat.{add-zero}
@@ -133,3 +133,22 @@ has-not c (b ∷ bs) h =
     by-eq b c _
     (λ e. let k : true ≡ false = rw (eq-eqb b c e) at h in let z : _≡_ {A = ℕ} 0 1 = cc in absurd (omega arith))
     (λ e. rw (before-more c b bs e) (ap (λ (l : List ℕ). b ∷ l) (has-not c bs (rw (ne-eqb b c e) at h))))
+
+-- c is neither the first octet nor among the others
+pub has-cons : (c b : ℕ) (bs : List ℕ) (X : Type 0) → has c (b ∷ bs) ≡ false → ((b ≡ c → ⊥) → has c bs ≡ false → X) → X
+unfolding has
+has-cons c b bs X h go =
+    by-eq b c _
+    (λ e. absurd (let k : true ≡ false = rw (eq-eqb b c e) at h in true≢false k))
+    (λ e. go e (rw (ne-eqb b c e) at h))
+
+-- a text without c, alone and before a c
+pub split-whole : (c : ℕ) (xs : List ℕ) → has c xs ≡ false → splitOn c xs ≡ xs ∷ []
+split-whole c xs h =
+    let e : before c xs ≡ xs = has-not c xs h in
+    split-last c xs (rw e (omega arith)) ∙ rw e
+
+pub split-append : (c : ℕ) (xs ys : List ℕ) → has c xs ≡ false → splitOn c (xs ++ (c ∷ ys)) ≡ xs ∷ splitOn c ys
+unfolding onFirst
+split-append c [] ys h = split-here c c ys refl
+split-append c (b ∷ bs) ys h = has-cons c b bs _ h (λ e r. split-more c b (bs ++ (c ∷ ys)) e ∙ ap (onFirst b) (split-append c bs ys r))

@@ -6,9 +6,13 @@ use mathlib.Core.List.{List, _++_}
 use mathlib.Core.Bool.{cond}
 use mathlib.Core.Option.{Option, none, some}
 use lib.ListN.{length, drop}
-use lib.Dec.{ltb}
+use lib.Dec.{leb, ltb}
 use Rattle.octets.specs.declared.Put.{Put}
 use Rattle.octets.specs.declared.Put.the-variants.{Octets, Refused}
+
+-- the octets to write, where they are not more than that many
+unfoldable pub bounded : ℕ → List ℕ → Option (List ℕ)
+bounded most t = cond (leb (length t) most) (some t) none
 
 -- the answer to a call that has these octets to write, if there are any, into a buffer of so many
 unfoldable pub putAnswer : ℕ → Option (List ℕ) → Put

@@ -6,7 +6,7 @@ pub mod parts;
 pub mod spans;
 pub mod words;
 
-// What a writer at the front of a buffer answers: how many octets it wrote, or document 01's number.
+// A writer's answer: how many octets it put at the front of a buffer, or document 01's number.
 pub enum Put {
     Octets(usize),
     Refused(u8),

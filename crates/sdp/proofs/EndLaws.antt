@@ -12,13 +12,13 @@ use lib.ListN.{length, getD, take, drop, length-drop, drop-of-length-le, take-ap
 use lib.Seq.{drop-drop, getD-take, getD-drop}
 use native.Mathlib.Nat.{add-zero}
 use native.Mathlib.Omega.{arith}
-use lib.Dec.{leb}
+use lib.Dec.{leb, leb·suc-suc}
 use borrow.Author.Tests.{le-leb, lt-leb}
 use Rattle.octets.specs.Split.{before}
 use Rattle.octets.specs.Spans.{textOf}
 use Rattle.octets.proofs.Laws.{next}
 use Rattle.octets.proofs.SplitLaws.{before-more}
-use Rattle.octets.proofs.CaseLaws.{by-bool, by-le}
+use Rattle.octets.proofs.CaseLaws.{by-bool}
 use Rattle.sdp.specs.Lines.{isPlain, allPlain, isLine}
 use Rattle.sdp.specs.Cut.{line, noLine, firstLine, lineIn, plainPart, PlainLength, Ends}
 use Rattle.sdp.specs.declared.Line.the-variants.{Text, NoLine}
@@ -57,18 +57,12 @@ part-stops (b ∷ bs) h =
     (λ e. let k : suc (length (plainPart bs)) < suc (length bs) = rw e at h in rw e (part-stops bs (omega arith)))
     (λ e. rw e e)
 
-leb-suc : (a b : ℕ) → leb (suc a) (suc b) ≡ leb a b
-leb-suc a b =
-    by-le a b _
-    (λ h. le-leb (suc a) (suc b) (omega arith) ∙ sym (le-leb a b h))
-    (λ h. lt-leb (suc a) (suc b) (omega arith) ∙ sym (lt-leb a b h))
-
 part-all : (s : List ℕ) → leb (length s) (length (plainPart s)) ≡ allPlain s
 unfolding plainPart allPlain
 part-all [] = refl
 part-all (b ∷ bs) =
     by-bool (isPlain b) _
-    (λ e. rw e (leb-suc (length bs) (length (plainPart bs)) ∙ part-all bs))
+    (λ e. rw e (leb·suc-suc (length bs) (length (plainPart bs)) ∙ part-all bs))
     (λ e. rw e (lt-leb (suc (length bs)) 0 (omega arith)))
 
 -- all of s is plain where its plain part is as long

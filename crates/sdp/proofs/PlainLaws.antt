@@ -24,7 +24,7 @@ plain-append [] ys = refl
 plain-append (b ∷ xs) ys =
     ap (λ (t : Bool). isPlain b && t) (plain-append xs ys) ∙ sym (and-assoc (isPlain b) (allPlain xs) (allPlain ys))
 
-plain-parts : (b : ℕ) (bs : List ℕ) → allPlain (b ∷ bs) ≡ true → (isPlain b ≡ true) × (allPlain bs ≡ true)
+pub plain-parts : (b : ℕ) (bs : List ℕ) → allPlain (b ∷ bs) ≡ true → (isPlain b ≡ true) × (allPlain bs ≡ true)
 unfolding allPlain
 plain-parts b bs h = and-eq-true-iff (isPlain b) (allPlain bs) .0 h
 

@@ -1,20 +1,14 @@
 -- Laws of parts of parts: where the part of a part lies in the whole, cut where either ends.
 -- Assumes nothing.
-use Prim.Native.Nat.{ℕ, zero, suc, _+_, _-_, _≤_, _<_}
+use Prim.Native.Nat.{ℕ, _+_, _-_, _≤_, _<_}
 use mathlib.Core.Path.{_≡_, sym, _∙_}
-use mathlib.Core.List.{List, [], _∷_}
+use mathlib.Core.List.{List, []}
 use lib.ListN.{length, take, drop, length-take, length-drop, drop-of-length-le}
 use lib.Seq.{take-all, take-take, take-nil, drop-drop}
-use native.Mathlib.Nat.{sub-zero}
 use native.Mathlib.Omega.{arith}
 use Rattle.octets.specs.declared.Span.{Span}
 use Rattle.octets.specs.Spans.{textOf}
-
-pub drop-take : (a n : ℕ) (l : List ℕ) → drop a (take n l) ≡ take (n - a) (drop a l)
-drop-take zero n l = simp sub-zero
-drop-take (suc a) zero l = let z : 0 - suc a ≡ 0 = omega arith in rw z
-drop-take (suc a) (suc n) [] = sym (take-nil (suc n - suc a))
-drop-take (suc a) (suc n) (x ∷ l) = let z : suc n - suc a ≡ n - a = omega arith in rw z (drop-take a n l)
+use Rattle.octets.proofs.Laws.{drop-take}
 
 module _ (m : List ℕ) (sp : Span) where
   module _ (p : Span) where

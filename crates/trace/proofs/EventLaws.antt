@@ -40,9 +40,9 @@ use Rattle.notation.proofs.OctetsLaws.{read-back, read-wrong}
 use Rattle.trace_read.specs.declared.Asked.{Asked}
 use Rattle.trace_read.specs.declared.Asked.the-variants as reading
 use Rattle.trace_read.specs.declared.Lent as places
-use Rattle.trace_read.specs.Events.{eventIn}
+use Rattle.trace_read.specs.Events.{eventIn, messageBy}
 use Rattle.trace_read.specs.Lending.{Lent, lentIn}
-use Rattle.trace_read.specs.Meaning.{messageBy, askedBy, Asks, lentBy}
+use Rattle.trace_read.specs.Meaning.{askedBy, Asks, lentBy}
 use Rattle.trace_write.specs.Words.{kindWord}
 use Rattle.trace_write.specs.Lines.{kindOf, headText, eventText}
 use Rattle.trace_write.specs.Detail.{detailText}

@@ -11,7 +11,7 @@ ghost use Rattle.configuration.specs.Meaning.{configurationBy};
 ghost use Rattle.bearer.specs.Meaning.{bearerBy, heldIf};
 ghost use Rattle.endpoint.specs.Call.{eventOf};
 ghost use Rattle.endpoint.specs.Step.{bookOf};
-ghost use Rattle.trace_read.specs.Meaning.{messageBy};
+ghost use Rattle.trace_read.specs.Events.{messageBy};
 ghost use Rattle.trace_write.specs.Detail.{detailText};
 ghost use Rattle.trace.specs.Trace.{lineText, handled, lentTo, following, ran};
 ghost use Rattle.trace.specs.Meaning.{Does, Passes, DidFront, Hearable, writtenBy, forceBy};

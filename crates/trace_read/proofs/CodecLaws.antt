@@ -21,7 +21,7 @@ use Rattle.octets.proofs.AppendLaws.{append-room}
 use Rattle.configuration.specs.declared.Codec.{Codec as Place}
 use Rattle.configuration.specs.declared.Config.{Config}
 use Rattle.configuration.specs.declared.Format.the-variants.{Payload, Named}
-use Rattle.configuration.specs.Configuration.{Codec, named, Configuration, rightCodec}
+use Rattle.configuration.specs.Configuration.{Codec, named, Configuration, rightCodec, mostName}
 use Rattle.configuration.specs.Meaning.{formatBy, codecBy, codecsBy, configurationBy, formatInside}
 use Rattle.configuration.proofs.EntryLaws.{length-codecs}
 use Rattle.trace_read.specs.declared.Configured.{Configured}
@@ -46,22 +46,22 @@ module _ (t : List ℕ) (x : Number) (e : x ≡ readNumber t) where
 pub ruleset payloads = (payload-bad, payload-large, payload-is)
 
 -- ---- a name
-pub name-long : (t : List ℕ) (z : Option Codec) → 32 < length t → z ≡ none → z ≡ rightly (named t)
+pub name-long : (t : List ℕ) (z : Option Codec) → mostName < length t → z ≡ none → z ≡ rightly (named t)
 unfolding rightly rightCodec
-name-long t z l h = rw (lt-leb (length t) 32 l, and-false (leb 1 (length t))) h
+name-long t z l h = rw (lt-leb (length t) mostName l, and-false (leb 1 (length t))) h
 
 name-front : (t l f : List ℕ) (k : ℕ) → Appends l 0 t k f → length t ≤ length l → take (length t) f ≡ t
 unfolding put
 name-front t l f k a h = rw (append-room l f 0 t k a (omega arith) .1) (take-append-seam t _)
 
-pub name-is : (t f : List ℕ) (k : ℕ) (u : Bool) → Appends (replicate 32 0) 0 t k f → length t ≤ 32
+pub name-is : (t f : List ℕ) (k : ℕ) (u : Bool) → Appends (replicate mostName 0) 0 t k f → length t ≤ mostName
     → u ≡ (formatInside (Named (length t)) && rightCodec (formatBy (Named (length t)) f))
     → cond u (some (formatBy (Named (length t)) f)) none ≡ rightly (named t)
 unfolding formatInside formatBy rightly
 name-is t f k u a h r =
-    let z : length (replicate {A = ℕ} 32 0) ≡ 32 = length-replicate {A = ℕ} 32 0 in
-    let e : take (length t) f ≡ t = name-front t (replicate 32 0) f k a (omega arith) in
-    let v : u ≡ rightCodec (named t) = rw (le-leb (length t) 32 h, e) at r in
+    let z : length (replicate {A = ℕ} mostName 0) ≡ mostName = length-replicate {A = ℕ} mostName 0 in
+    let e : take (length t) f ≡ t = name-front t (replicate mostName 0) f k a (omega arith) in
+    let v : u ≡ rightCodec (named t) = rw (le-leb (length t) mostName h, e) at r in
     rw (e, v)
 
 pub ruleset names = (name-long, name-is)

@@ -16,16 +16,17 @@ use Rattle.octets.specs.Hex.{isHexDigit, allHex, isHex}
 use Rattle.octets.specs.Split.{has, before, onFirst, splitOn, partOf, separatorsOf}
 use Rattle.octets.specs.Words.{begins, same}
 use Rattle.octets.proofs.CaseLaws.{by-eq, by-bool}
-use Rattle.octets.proofs.SplitLaws.{split-some, split-last, split-dot, has-before, has-not}
+use Rattle.octets.proofs.SplitLaws.{split-some, split-dot, has-before, split-whole}
 use Rattle.endpoint.specs.declared.Call.the-variants.{SetUp, Change, Release, T1, T2}
 use Rattle.endpoint.specs.Rule.{Event, setUp, change}
 use Rattle.trace_read.specs.declared.Asked.{Asked}
 use Rattle.trace_read.specs.declared.Asked.the-variants.{Event as Named, Digits, Nothing}
 use Rattle.trace_read.specs.declared.events.Three.{Three}
 use Rattle.trace_read.specs.declared.events.Three.the-variants.{Numbers, Wrong}
-use Rattle.trace_read.specs.Events.{bareOf, messageOf, numbersOf, commandOf, eventOf, eventIn}
-use Rattle.trace_read.specs.Meaning.{messageBy, askedBy, Asks}
+use Rattle.trace_read.specs.Events.{bareOf, messageOf, numbersOf, commandOf, eventOf, eventIn, messageBy}
+use Rattle.trace_read.specs.Meaning.{askedBy, Asks}
 use Rattle.trace_read.specs.Steps.{threeOf}
+use Rattle.trace_read.specs.Words.{mostLine}
 use Rattle.trace_read.proofs.FieldLaws.{fields-are}
 
 -- no test is both
@@ -127,13 +128,9 @@ hex-whole (b ∷ bs) h =
     (λ e. let z : isHexDigit 9 ≡ true = rw e at p in never (sym z))
     (λ e. rw (ne-eqb b 9 e, hex-whole bs q))
 
-message-one : (t : List ℕ) → isHex t ≡ true → eventOf ((77 ∷ []) ∷ t ∷ []) ≡ messageBy t
-unfolding eventOf messageOf same begins partOf messageBy
-message-one t h = rw h
-
-message-bad : (t : List ℕ) → isHex t ≡ false → eventOf ((77 ∷ []) ∷ t ∷ []) ≡ none
+message-one : (t : List ℕ) → eventOf ((77 ∷ []) ∷ t ∷ []) ≡ messageBy t
 unfolding eventOf messageOf same begins partOf
-message-bad t h = rw h
+message-one t = refl
 
 message-none : (t : List ℕ) → isHex t ≡ false → messageBy t ≡ none
 unfolding messageBy
@@ -159,17 +156,15 @@ module _ (s : List ℕ) (b : begins (77 ∷ 9 ∷ []) s ≡ true) where
   message-yes h =
       let p = drop 2 s in
       let a : allHex p ≡ true = and-eq-true-iff (eqb (length p % 2) 0) (allHex p) .0 h .1 in
-      rw (message-fields s b, hex-whole p a) (sym (message-one p h))
+      rw (message-fields s b, hex-whole p a) (sym (message-one p))
 
   message-no : isHex (drop 2 s) ≡ false → messageBy (drop 2 s) ≡ eventOf (splitOn 9 s)
   message-no h =
       let p = drop 2 s in
-      rw (message-fields s b, message-none p h)
+      rw (message-fields s b)
       (by-bool (has 9 p) _
-      (λ k. let l = has-before 9 p k in rw (split-dot 9 p l) (sym (message-many (before 9 p) _ (split-some 9 _))))
-      (λ k. let w = has-not 9 p k in
-      let l : length p ≤ length (before 9 p) = rw w (omega arith) in
-      rw (split-last 9 p l, w) (sym (message-bad p h))))
+      (λ k. let l = has-before 9 p k in rw (message-none p h, split-dot 9 p l) (sym (message-many (before 9 p) _ (split-some 9 _))))
+      (λ k. rw (split-whole 9 p k) (sym (message-one p))))
 
   message-is : messageBy (drop 2 s) ≡ eventOf (splitOn 9 s)
   message-is = by-bool (isHex (drop 2 s)) _ message-yes message-no
@@ -218,16 +213,16 @@ pub ruleset others = (other-bare, other-command, other-none)
 
 -- ---- the line
 module _ (s : List ℕ) where
-  pub event-long : 1200 ≤ length s → Asks s Nothing
+  pub event-long : mostLine ≤ length s → Asks s Nothing
   unfolding eventIn askedBy
-  event-long h = record { is = rw (le-ltb (length s) 1200 h); short = λ e. (let z : _≡_ {A = ℕ} 0 1 = cc in absurd (omega arith)) }
+  event-long h = record { is = rw (le-ltb (length s) mostLine h); short = λ e. (let z : _≡_ {A = ℕ} 0 1 = cc in absurd (omega arith)) }
 
-  pub event-is : (x : Asked) → length s < 1200 → askedBy s x ≡ eventOf (splitOn 9 s) → Asks s x
+  pub event-is : (x : Asked) → length s < mostLine → askedBy s x ≡ eventOf (splitOn 9 s) → Asks s x
   unfolding eventIn
-  event-is x h r = record { is = rw (lt-ltb (length s) 1200 h) r; short = λ e. h }
+  event-is x h r = record { is = rw (lt-ltb (length s) mostLine h) r; short = λ e. h }
 
-  pub event-digits : (t : Bool) → t ≡ begins (77 ∷ 9 ∷ []) s → t ≡ true → length s < 1200 → Asks s Digits
+  pub event-digits : (t : Bool) → t ≡ begins (77 ∷ 9 ∷ []) s → t ≡ true → length s < mostLine → Asks s Digits
   unfolding eventIn askedBy
-  event-digits t e q h = record { is = rw (lt-ltb (length s) 1200 h) (message-is s (sym e ∙ q)); short = λ e. h }
+  event-digits t e q h = record { is = rw (lt-ltb (length s) mostLine h) (message-is s (sym e ∙ q)); short = λ e. h }
 
 pub ruleset lines = (event-long, event-is, event-digits)

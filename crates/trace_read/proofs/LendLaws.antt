@@ -17,10 +17,10 @@ use Rattle.octets.proofs.CaseLaws.{by-bool}
 use Rattle.octets.proofs.SplitLaws.{part-is, has-before, has-not}
 use Rattle.notation.specs.Notation.{lengthIn}
 use Rattle.trace_read.specs.declared.Lent.{Lent as Place}
-use Rattle.trace_read.specs.Lending.{usual, lentBehind, lentIn}
+use Rattle.trace_read.specs.Lending.{usual, lentBehind, lentIn, usualRoom}
 use Rattle.trace_read.specs.Meaning.{lentBy}
 
-pub usual-is : (s : List ℕ) → lentBy s (record { room = 2048; at = 0 }) ≡ usual s
+pub usual-is : (s : List ℕ) → lentBy s (record { room = usualRoom; at = 0 }) ≡ usual s
 unfolding lentBy usual
 usual-is s = refl
 

@@ -1,4 +1,4 @@
--- Document 01, "Trace program": the lines that configure the endpoint. Nothing is what is refused by 12.
+-- Document 01, "Trace program": the lines that configure the endpoint. `none` is refused by 12.
 use Prim.Native.Nat.{ℕ}
 use mathlib.Core.List.{List, [], _∷_, _++_}
 use mathlib.Core.Bool.{Bool, _&&_, cond}
@@ -22,7 +22,7 @@ use Rattle.trace_read.specs.Events.{led}
 unfoldable pub hostIn : List ℕ → Parsed
 hostIn s = onParsed (readV4 s) Unicast (readV6 s)
 
--- a configuration with no codec yet, if all else can be used
+-- a configuration with no codec yet
 unfoldable pub general : Address → ℕ → ℕ → ℕ → ℕ → ℕ → Configuration
 general own port least most t1 t2 = record {
   own = own;
@@ -34,6 +34,7 @@ general own port least most t1 t2 = record {
   codecs = [];
 }
 
+-- c, if all but its codecs can be used
 unfoldable pub usable : Configuration → Option Configuration
 usable c = cond (rightGeneral c) (some c) none
 
@@ -82,7 +83,7 @@ withCodec c k = record {
   codecs = c .codecs ++ (k ∷ []);
 }
 
--- if there are not yet as many as there can be
+-- c with one codec more, if there is room for it
 unfoldable pub addedTo : Configuration → Codec → Option Configuration
 addedTo c k = cond (ltb (length (c .codecs)) mostCodecs) (some (withCodec c k)) none
 

@@ -1,7 +1,7 @@
 -- Document 01, "Trace program": the event that a line names, if it names one.
 use Prim.Native.Nat.{ℕ}
 use mathlib.Core.List.{List}
-use mathlib.Core.Bool.{Bool, _&&_, cond}
+use mathlib.Core.Bool.{Bool, cond}
 use mathlib.Core.Option.{Option, none, some}
 use lib.ListN.{length}
 use lib.Dec.{eqb, ltb}
@@ -23,9 +23,13 @@ bareOf ps =
     (cond (led t1Word ps) (some t1)
     (cond (led t2Word ps) (some t2) none))
 
--- two: a message, its octets in pairs of digits
+-- the message whose octets are the pairs of digits t
+unfoldable pub messageBy : List ℕ → Option Event
+messageBy t = cond (isHex t) (some (message (octetsOf t))) none
+
+-- two: a message
 unfoldable pub messageOf : List (List ℕ) → Option Event
-messageOf ps = cond (led messageWord ps && isHex (partOf 1 ps)) (some (message (octetsOf (partOf 1 ps)))) none
+messageOf ps = cond (led messageWord ps) (messageBy (partOf 1 ps)) none
 
 -- four: a command that names a codec entry, a payload and a packet time, each a number up to 65535 with no leading zero
 unfoldable pub numbersOf : (ℕ → ℕ → ℕ → Event) → List (List ℕ) → Option Event

@@ -5,22 +5,17 @@ use mathlib.Core.List.{List, []}
 use mathlib.Core.Bool.{cond}
 use mathlib.Core.Option.{Option, none, some}
 use lib.ListN.{length, drop}
-use Rattle.octets.specs.Hex.{isHex, octetsOf}
 use Rattle.configuration.specs.Configuration.{Configuration}
 use Rattle.configuration.specs.Meaning.{configurationBy}
-use Rattle.endpoint.specs.Rule.{Event, message}
+use Rattle.endpoint.specs.Rule.{Event}
 use Rattle.endpoint.specs.Call as calls
 use Rattle.trace_read.specs.declared.Asked.{Asked}
 use Rattle.trace_read.specs.declared.Asked.the-variants.{Event as Named, Digits, Nothing}
 use Rattle.trace_read.specs.declared.Configured.{Configured}
 use Rattle.trace_read.specs.declared.Lent as places
 use Rattle.trace_read.specs.Words.{mostLine}
-use Rattle.trace_read.specs.Events.{eventIn}
+use Rattle.trace_read.specs.Events.{eventIn, messageBy}
 use Rattle.trace_read.specs.Lending.{Lent}
-
--- the message that the digits t stand for, if they are digits
-unfoldable pub messageBy : List ℕ → Option Event
-messageBy t = cond (isHex t) (some (message (octetsOf t))) none
 
 -- the event that was read of the line s
 unfoldable pub askedBy : List ℕ → Asked → Option Event

@@ -22,6 +22,7 @@ use configuration::MOST_CODECS;
 use configuration::MOST_NAME;
 use configuration::check::right_codec;
 use configuration::check::right_general;
+use configuration::codecs::blank;
 use octets::Number;
 use octets::append::push;
 use octets::decimal::read_number;
@@ -40,15 +41,6 @@ enum Small {
 enum Four {
     Numbers(u8, u8, u8, u8),
     Wrong,
-}
-
-// A codec that says nothing.
-fn blank() -> Codec {
-    let name = [0u8; MOST_NAME];
-    Codec {
-        format: Format::Payload(0),
-        name,
-    }
 }
 
 // A configuration that says nothing.

@@ -49,6 +49,7 @@ fn three_numbers(s: &[u8]) -> Three
     }
 }
 
+// A set-up, by its numbers.
 fn set_up(s: &[u8]) -> Asked
     ensures { λ r. ⌜ askedBy (now (s .entry)) r ≡ numbersOf Event.setUp (fieldsOf (now (s .entry))) ⌝ }
 {
@@ -58,6 +59,7 @@ fn set_up(s: &[u8]) -> Asked
     }
 }
 
+// A change, by its numbers.
 fn change(s: &[u8]) -> Asked
     ensures { λ r. ⌜ askedBy (now (s .entry)) r ≡ numbersOf Event.change (fieldsOf (now (s .entry))) ⌝ }
 {

@@ -15,7 +15,7 @@ pub const USUAL_ROOM: usize = 2048;
 // What a line asks of the endpoint.
 pub enum Asked {
     Event(Call),
-    // To hear a message, if what stands behind the line's first two octets is digits for it.
+    // A message; its digits stand behind the line's first two octets, and are still unread.
     Digits,
     Nothing,
 }

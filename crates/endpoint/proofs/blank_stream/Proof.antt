@@ -1,15 +1,15 @@
 -- `blank_stream` meets its contract: a span of no octets at the front lies inside any text.
 -- Assumes nothing.
-use lib.ListN.{length}
-use native.Mathlib.Omega.{arith}
-use borrow.Author.Tests.{le-leb}
-use Rattle.media.specs.Meaning.{spansOf, allIn, streamInside}
+use borrow.Author.Needs.{needs}
+use Rattle.endpoint.proofs.VerdictLaws.{blank-inside}
 use Rattle.endpoint.proofs.blank_stream.Statement.{statement}
 use Rattle.endpoint.proofs.blank_stream.Tie as tie
 
+bare-requires : tie.Need-bare-requires
+bare-requires c κs = search needs
+
 returns : tie.Need-returns
-unfolding spansOf allIn streamInside
-returns c = λ m. rw (le-leb 0 (length m) (omega arith))
+returns c = search (blank-inside, needs)
 
 pub blank-stream-spec : {M : Type 1} → statement M
-blank-stream-spec = tie.close (tie.spec returns)
+blank-stream-spec = tie.close (tie.spec bare-requires returns)

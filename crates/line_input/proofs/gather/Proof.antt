@@ -1,7 +1,9 @@
 -- `line_input::gather` meets its contract: at each turn what is left of the part gives the same answer and the same buffer as the whole call.
 -- Assumes nothing.
 use Rattle.line_input.proofs.GatherLaws.{gathering}
-use Rattle.line_input.specs.Gather.{gathered, filled}
+use Rattle.line_input.specs.Gather.{gathered}
+use Rattle.octets.specs.Append.{appended}
+use Rattle.octets.specs.Split.{before}
 use lib.ListN.{length, drop, length-set}
 use mathlib.Core.Path.{_≡_}
 use Prim.Native.Nat.{_-_}
@@ -13,7 +15,7 @@ abbrev Inv-loop : tie.InvT-loop
 Inv-loop part from line₀ len over n₀ full₀ i₀ line n full i =
     (length line ≡ length line₀)
     × ((gathered (drop i part) i (length line - n) n full ≡ gathered (drop from part) from (length line₀ - len) len over)
-    × (filled (drop i part) line n ≡ filled (drop from part) line₀ len))
+    × (appended line n (before 10 (drop i part)) ≡ appended line₀ len (before 10 (drop from part))))
 
 abbrev μ-loop : tie.MeasureT-loop
 μ-loop part from line₀ len over n₀ full₀ i₀ line n full i = length part - i

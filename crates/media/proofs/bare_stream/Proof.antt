@@ -1,4 +1,4 @@
--- `bare_stream` meets its contract: the two spans stand for the tokens, and the empty ones for nothing.
+-- `bare_stream` meets its contract: the two spans stand for the tokens.
 -- Assumes nothing.
 use borrow.Author.Needs.{needs}
 use Rattle.media.proofs.bare_stream.Statement.{statement}
@@ -11,8 +11,11 @@ token-place-requires c κs = search needs
 token-place-requires-2 : tie.Need-token-place-requires-2
 token-place-requires-2 c κs = search needs
 
+bare-requires : tie.Need-bare-requires
+bare-requires c κs = search needs
+
 returns : tie.Need-returns
 returns c = search (media-stored, needs)
 
 pub bare-stream-spec : {M : Type 1} → statement M
-bare-stream-spec = tie.close (tie.spec token-place-requires token-place-requires-2 returns)
+bare-stream-spec = tie.close (tie.spec token-place-requires token-place-requires-2 bare-requires returns)

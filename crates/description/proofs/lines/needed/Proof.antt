@@ -11,6 +11,9 @@ returns : tie.Need-returns
 unfolding needed reached stepBy draftBy
 returns c = λ m. search (picks, flags, needs)
 
+add-more : tie.Need-add-more
+add-more c = search needs
+
 returns-2 : tie.Need-returns-2
 unfolding needed reached stepBy draftBy
 returns-2 c = λ m. search (picks, flags, needs)
@@ -20,4 +23,4 @@ unfolding needed reached stepBy draftBy
 returns-3 c = λ m. search (picks, flags, needs)
 
 pub needed-spec : {M : Type 1} → statement M
-needed-spec = tie.close (tie.spec returns returns-2 returns-3)
+needed-spec = tie.close (tie.spec returns add-more returns-2 returns-3)
