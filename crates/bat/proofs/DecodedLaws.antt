@@ -20,7 +20,7 @@ use Rattle.bat.specs.Values.{Diagnostic, Codec, ListedCodec, Kind, Lasti
 use Rattle.bat.specs.Writing.{sizeText, elementText, wordText, codecText, codecsText, diagnosticsText, lastingText, identifierOf, contentsText, allCodecsRight, inRange, valueText, octetsOf}
 use Rattle.octets.proofs.CaseLaws.{by-eq, by-lt, by-le}
 use Rattle.bat.proofs.WalkLaws.{size-small, size-low, front-within, front-size, front-length, front-nil, walk-ended, walk-unframed, walk-first, by-front}
-use Rattle.bat.proofs.RoundTrip.{settledCodecs, settledLasting, settled}
+use Rattle.bat.proofs.RoundTrip.{sevenBitCodecs, sevenBitLasting, sevenBits}
 
 -- ---- lengths
 -- `sizeText` is the shortest: no length field of as great a number is shorter.
@@ -58,11 +58,11 @@ module _ {X : Type 0} {v : Value} where
 pub record Kept (i : ℕ) (s : List ℕ) (v : Value) : Type 0 where
   pub identifies : identifierOf v ≡ i
   pub ranges : inRange v ≡ true
-  pub settles : settled v ≡ true
+  pub settles : sevenBits v ≡ true
   pub shrinks : length (contentsText v) ≤ length s
 
 module _ {i : ℕ} {s : List ℕ} {v : Value} where
-  kept-as : (w : Value) → identifierOf w ≡ i → inRange w ≡ true → settled w ≡ true → length (contentsText w) ≤ length s → decoded w ≡ decoded v → Kept i s v
+  kept-as : (w : Value) → identifierOf w ≡ i → inRange w ≡ true → sevenBits w ≡ true → length (contentsText w) ≤ length s → decoded w ≡ decoded v → Kept i s v
   kept-as w same right small short p = let q : w ≡ v = cc in rw (← q) (record { identifies = same; ranges = right; settles = small; shrinks = short })
 
   -- one reading or another, by the identifier
@@ -83,12 +83,12 @@ length-codecOf s r = omega (arith, right-some (codecOf s) r, length-drop 1 s)
 -- 4
 record CodecsKept (s : List ℕ) (cs : List ListedCodec) : Type 0 where
   ranges : allCodecsRight cs ≡ true
-  settles : settledCodecs cs ≡ true
+  settles : sevenBitCodecs cs ≡ true
   shrinks : length (codecsText cs) ≤ length s
   lists : 1 ≤ length s → 1 ≤ length cs
 
 codecs-first : (s : List ℕ) (e : Element) (t : List ℕ) (cs : List ListedCodec) → front s ≡ first e t → isSingle e ≡ true → CodecsKept t cs → CodecsKept s (listedCodec e ∷ cs)
-unfolding isSingle allCodecsRight settledCodecs codecsText
+unfolding isSingle allCodecsRight sevenBitCodecs codecsText
 codecs-first s e t cs p is k =
     let c = meant (e .compatibility) in
     let x = codecText (codecOf (e .contents)) in
@@ -109,7 +109,7 @@ codecThen-all true c d (offence k) cs p = absurd (let z : _≡_ {A = ℕ} 0 1 = 
 codecThen-all false c d rest cs p = absurd (let z : _≡_ {A = ℕ} 0 1 = cc in omega arith)
 
 codecs-walk : (s : List ℕ) (d : ℕ) (cs : List ListedCodec) → walk codecThen offence (allCodecs []) d s ≡ allCodecs cs → CodecsKept s cs
-unfolding codecThen allCodecsRight settledCodecs codecsText
+unfolding codecThen allCodecsRight sevenBitCodecs codecsText
 codecs-walk =
     by-front (λ (s : List ℕ). (d : ℕ) (cs : List ListedCodec) → walk codecThen offence (allCodecs []) d s ≡ allCodecs cs → CodecsKept s cs)
     (λ d cs p.
@@ -123,7 +123,7 @@ codecs-walk =
     rw (← all) (codecs-first s e t r q is (ih (d + length (whole e)) r rest)))
 
 kept-codecs : (s : List ℕ) (o : Codecs) (v : Value) → (length s ≡ 0 → ⊥) → codecsIn s ≡ o → onCodecs o (λ cs. decoded (codecs cs)) (λ d. unrecognised (Inner d)) ≡ decoded v → Kept 4 s v
-unfolding onCodecs codecsIn identifierOf inRange settled contentsText
+unfolding onCodecs codecsIn identifierOf inRange sevenBits contentsText
 kept-codecs s (allCodecs cs) v full p =
     let k = codecs-walk s 0 cs p in
     kept-as (codecs cs) refl (rw (le-leb 1 (length cs) (k .lists (omega arith)), k .ranges)) (k .settles) (k .shrinks)
@@ -140,7 +140,7 @@ length-diagnosticsIn (i ∷ a ∷ b ∷ s) ds p =
     rw (← all) (omega (arith, length-diagnosticsIn s r rest))
 
 kept-diagnostics : (n : ℕ) (s : List ℕ) (o : Option (List Diagnostic)) (v : Value) → diagnosticsIn s ≡ o → Option·elim o wrong (λ ds. decoded (report n ds)) ≡ decoded v → Kept 6 (n ∷ s) v
-unfolding Option·elim identifierOf inRange settled contentsText
+unfolding Option·elim identifierOf inRange sevenBits contentsText
 kept-diagnostics n s none v p = decoded-never
 kept-diagnostics n s (some ds) v p = kept-as (report n ds) refl refl refl (omega (arith, length-diagnosticsIn s ds p))
 
@@ -151,7 +151,7 @@ kept-report (n ∷ s) v = kept-diagnostics n s (diagnosticsIn s) v refl
 
 -- 10
 kept-unit : (s : List ℕ) (v : Value) → octet 0 s < 256 → unitIn s ≡ decoded v → Kept 10 s v
-unfolding unitIn identifierOf inRange settled contentsText
+unfolding unitIn identifierOf inRange sevenBits contentsText
 kept-unit [] v small = decoded-never
 kept-unit (n ∷ s) v small =
     decoded-if (ltb n (length s)) Itself (λ h.
@@ -163,12 +163,12 @@ kept-unit (n ∷ s) v small =
 
 -- 11
 record LastingKept (t : List ℕ) (l : Lasting) : Type 0 where
-  settles : settledLasting l ≡ true
+  settles : sevenBitLasting l ≡ true
   shrinks : length (lastingText l) ≤ length t
 
 kept-lasting : (k : Kind) (d : ℕ) (t : List ℕ) (v : Value) (f : Front) → front t ≡ f → onFront f (lastBy k d) (unrecognised (Inner d)) (decoded (signal k untimed)) ≡ decoded v
     → (l : Lasting) × LastingKept t l × (decoded (signal k l) ≡ decoded v)
-unfolding onFront lastBy isDuration settledLasting lastingText
+unfolding onFront lastBy isDuration sevenBitLasting lastingText
 kept-lasting k d t v (first e u) p =
     decoded-if (isDuration e) (Inner d) (λ is. decoded-if (eqb (length u) 0) (Inner (d + length (whole e))) (λ last q.
     let (named, two) = and-eq-true-iff (eqb (e .identifier) 15) (eqb (length (e .contents)) 2) .0 is in
@@ -179,7 +179,7 @@ kept-lasting k d t v unframed p = decoded-never
 kept-lasting k d t v ended p = λ q. (untimed, record { settles = refl; shrinks = omega arith }, q)
 
 kept-signal : (s : List ℕ) (f : Front) (v : Value) → front s ≡ f → onFront f signalBy (unrecognised (Inner 0)) wrong ≡ decoded v → Kept 11 s v
-unfolding onFront signalBy timedBy isType rightType identifierOf inRange settled contentsText
+unfolding onFront signalBy timedBy isType rightType identifierOf inRange sevenBits contentsText
 kept-signal s (first e t) v p =
     decoded-if (isType e) (Inner 0) (λ is q.
     let (named, right) = and-eq-true-iff (eqb (e .identifier) 14) (rightType (e .contents)) .0 is in
@@ -195,7 +195,7 @@ kept-signal s ended v p = decoded-never
 
 -- All kinds. That the first octet is one matters to a control unit alone, where it is the length of the network id.
 pub reading-kept : (i : ℕ) (s : List ℕ) (v : Value) → octet 0 s < 256 → reading i s ≡ decoded v → Kept i s v
-unfolding reading actionIn backboneIn addressIn codecListIn singleIn characteristicsIn controlIn tunnellingIn signalIn capabilityIn indicatorsIn rightType typeIn durationIn identifierOf inRange settled contentsText
+unfolding reading actionIn backboneIn addressIn codecListIn singleIn characteristicsIn controlIn tunnellingIn signalIn capabilityIn indicatorsIn rightType typeIn durationIn identifierOf inRange sevenBits contentsText
 reading-kept i s v small =
     let all = le-refl (length s) in
     kept-or 1 (decoded-if (eqb (length s) 1) Itself (λ one. decoded-if (isAction (octet 0 s)) Itself (λ r. kept-as (action (octet 0 s)) refl r refl (omega (arith, eqb-true)))))

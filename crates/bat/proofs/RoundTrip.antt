@@ -66,41 +66,41 @@ meant-marked c h = omega arith
 
 -- ---- inner compatibility
 -- The compatibility bits of a constructor's inner elements are seven, as they are read.
-unfoldable pub settledCodecs : List ListedCodec → Bool
-settledCodecs [] = true
-settledCodecs (c ∷ cs) = ltb (c .compatibility) 128 && settledCodecs cs
+unfoldable pub sevenBitCodecs : List ListedCodec → Bool
+sevenBitCodecs [] = true
+sevenBitCodecs (c ∷ cs) = ltb (c .compatibility) 128 && sevenBitCodecs cs
 
-unfoldable pub settledLasting : Lasting → Bool
-settledLasting untimed = true
-settledLasting (lasting c n) = ltb c 128
+unfoldable pub sevenBitLasting : Lasting → Bool
+sevenBitLasting untimed = true
+sevenBitLasting (lasting c n) = ltb c 128
 
-unfoldable pub settled : Value → Bool
-settled (action n) = true
-settled (backbone s) = true
-settled (address s) = true
-settled (codecs cs) = settledCodecs cs
-settled (single c) = true
-settled (report r ds) = true
-settled (characteristics n) = true
-settled (control s) = true
-settled (tunnelling b) = true
-settled (controlUnit n l) = true
-settled (signal k t) = ltb (k .compatibility) 128 && settledLasting t
-settled (capability b) = true
-settled (indicators s) = true
-settled (signalType n) = true
-settled (duration n) = true
+unfoldable pub sevenBits : Value → Bool
+sevenBits (action n) = true
+sevenBits (backbone s) = true
+sevenBits (address s) = true
+sevenBits (codecs cs) = sevenBitCodecs cs
+sevenBits (single c) = true
+sevenBits (report r ds) = true
+sevenBits (characteristics n) = true
+sevenBits (control s) = true
+sevenBits (tunnelling b) = true
+sevenBits (controlUnit n l) = true
+sevenBits (signal k t) = ltb (k .compatibility) 128 && sevenBitLasting t
+sevenBits (capability b) = true
+sevenBits (indicators s) = true
+sevenBits (signalType n) = true
+sevenBits (duration n) = true
 
 -- ---- values
 -- 4
-walk-codecsText : (cs : List ListedCodec) (d : ℕ) → allCodecsRight cs ≡ true → settledCodecs cs ≡ true → length (codecsText cs) ≤ 2046 → walk codecThen offence (allCodecs []) d (codecsText cs) ≡ allCodecs cs
-unfolding codecsText allCodecsRight settledCodecs codecThen isSingle withCodec
+walk-codecsText : (cs : List ListedCodec) (d : ℕ) → allCodecsRight cs ≡ true → sevenBitCodecs cs ≡ true → length (codecsText cs) ≤ 2046 → walk codecThen offence (allCodecs []) d (codecsText cs) ≡ allCodecs cs
+unfolding codecsText allCodecsRight sevenBitCodecs codecThen isSingle withCodec
 walk-codecsText [] d r s h = walk-ended codecThen offence (allCodecs []) d [] front-nil
 walk-codecsText (c ∷ cs) d r s h =
     let x = codecText (c .codec) in
     let e = elementOf 5 (c .compatibility) x in
     let (right, rights) = and-eq-true-iff (rightCodec (c .codec)) (allCodecsRight cs) .0 r in
-    let (small, smalls) = and-eq-true-iff (ltb (c .compatibility) 128) (settledCodecs cs) .0 s in
+    let (small, smalls) = and-eq-true-iff (ltb (c .compatibility) 128) (sevenBitCodecs cs) .0 s in
     let m : meant (128 + c .compatibility) ≡ c .compatibility = meant-marked (c .compatibility) (ltb-true _ _ small) in
     let l = length-append (elementText 5 (c .compatibility) x) (codecsText cs) in
     let k = length-elementText 5 (c .compatibility) x in
@@ -112,7 +112,7 @@ unfolding codecsText elementText
 length-codecsText [] h = h
 length-codecsText (c ∷ cs) h = omega arith
 
-codecListIn-codecsText : (cs : List ListedCodec) → 1 ≤ length cs → allCodecsRight cs ≡ true → settledCodecs cs ≡ true → length (codecsText cs) ≤ 2046 → codecListIn (codecsText cs) ≡ decoded (codecs cs)
+codecListIn-codecsText : (cs : List ListedCodec) → 1 ≤ length cs → allCodecsRight cs ≡ true → sevenBitCodecs cs ≡ true → length (codecsText cs) ≤ 2046 → codecListIn (codecsText cs) ≡ decoded (codecs cs)
 unfolding codecListIn codecsIn onCodecs
 codecListIn-codecsText cs one r s h =
     rw (ne-eqb (length (codecsText cs)) 0 (omega (arith, length-codecsText cs one)), walk-codecsText cs 0 r s h)
@@ -124,24 +124,24 @@ diagnosticsIn-diagnosticsText [] = refl
 diagnosticsIn-diagnosticsText (d ∷ ds) = rw (diagnosticsIn-diagnosticsText ds, div-add-mod' (d .index) 256)
 
 -- 11
-timedBy-lastingText : (k : Kind) (d : ℕ) (t : Lasting) → settledLasting t ≡ true → timedBy k d (lastingText t) ≡ decoded (signal k t)
-unfolding timedBy lastingText onFront lastBy isDuration settledLasting
+timedBy-lastingText : (k : Kind) (d : ℕ) (t : Lasting) → sevenBitLasting t ≡ true → timedBy k d (lastingText t) ≡ decoded (signal k t)
+unfolding timedBy lastingText onFront lastBy isDuration sevenBitLasting
 timedBy-lastingText k d untimed s = rw front-nil
 timedBy-lastingText k d (lasting c n) s =
     let f : front (elementText 15 c (wordText n)) ≡ first (elementOf 15 c (wordText n)) [] = rw append-nil at (front-elementText 15 c (wordText n) [] (omega arith)) in
     rw (f, meant-marked c (ltb-true _ _ s), div-add-mod' n 256)
 
-signalIn-elementText : (k : Kind) (t : Lasting) → isSignal (k .kind) ≡ true → settled (signal k t) ≡ true → signalIn (elementText 14 (k .compatibility) (k .kind ∷ []) ++ lastingText t) ≡ decoded (signal k t)
-unfolding signalIn signalBy onFront isType rightType settled
+signalIn-elementText : (k : Kind) (t : Lasting) → isSignal (k .kind) ≡ true → sevenBits (signal k t) ≡ true → signalIn (elementText 14 (k .compatibility) (k .kind ∷ []) ++ lastingText t) ≡ decoded (signal k t)
+unfolding signalIn signalBy onFront isType rightType sevenBits
 signalIn-elementText k t r s =
     let c = k .compatibility in
     let x = k .kind ∷ [] in
-    let (small, last) = and-eq-true-iff (ltb c 128) (settledLasting t) .0 s in
+    let (small, last) = and-eq-true-iff (ltb c 128) (sevenBitLasting t) .0 s in
     rw (front-elementText 14 c x (lastingText t) (omega arith), r, meant-marked c (ltb-true _ _ small)) (timedBy-lastingText k (length (whole (elementOf 14 c x))) t last)
 
 -- all kinds
-pub reading-contentsText : (v : Value) → inRange v ≡ true → settled v ≡ true → length (contentsText v) ≤ 2046 → reading (identifierOf v) (contentsText v) ≡ decoded v
-unfolding inRange settled contentsText identifierOf reading actionIn backboneIn addressIn singleIn reportIn Option·elim characteristicsIn controlIn tunnellingIn unitIn capabilityIn unmarked indicatorsIn rightType typeIn durationIn
+pub reading-contentsText : (v : Value) → inRange v ≡ true → sevenBits v ≡ true → length (contentsText v) ≤ 2046 → reading (identifierOf v) (contentsText v) ≡ decoded v
+unfolding inRange sevenBits contentsText identifierOf reading actionIn backboneIn addressIn singleIn reportIn Option·elim characteristicsIn controlIn tunnellingIn unitIn capabilityIn unmarked indicatorsIn rightType typeIn durationIn
 reading-contentsText (action n) r s h = rw r
 reading-contentsText (backbone t) r s h = rw r
 reading-contentsText (address t) r s h = rw r
@@ -176,7 +176,7 @@ pub record ReadBack (c : ℕ) (v : Value) (rest : List ℕ) : Type 0 where
   pub means : meant (element .compatibility) ≡ c
   pub decodes : reading (element .identifier) (element .contents) ≡ decoded v
 
-pub read-written : (c : ℕ) (v : Value) (rest : List ℕ) → c < 128 → inRange v ≡ true → settled v ≡ true → length (valueText c v) ≤ mostOctets → ReadBack c v rest
+pub read-written : (c : ℕ) (v : Value) (rest : List ℕ) → c < 128 → inRange v ≡ true → sevenBits v ≡ true → length (valueText c v) ≤ mostOctets → ReadBack c v rest
 unfolding valueText
 read-written c v rest small r s h =
     let i = identifierOf v in

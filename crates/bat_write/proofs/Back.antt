@@ -23,50 +23,50 @@ use Rattle.bat.specs.Values.{Diagnostic, Value, report, decoded, reading, meant
 use Rattle.octets.specs.Puts.{Puts}
 use Rattle.bat.specs.Writing.{inRange, valueText, octetsOf, octetsIn}
 use Rattle.bat.specs.Meaning.{lastingIn, valueBy, allInside, valueIn}
-use Rattle.bat.proofs.RoundTrip.{settledLasting, settled, read-written}
+use Rattle.bat.proofs.RoundTrip.{sevenBitLasting, sevenBits, read-written}
 use Rattle.bat_write.specs.Texts.{listOf}
 use Rattle.bat_write.proofs.CodecLaws.{listed}
 
 -- ---- the compatibility bits of inner elements are seven
-codecs-settled : (s : List ℕ) (x : Codecs) → codecsIn s ≡ x → Option·elim (listOf x) true settled ≡ true
-unfolding onCodecs Option·elim settled
-codecs-settled s (allCodecs cs) p = listed s cs p .settles
-codecs-settled s (offence d) p = refl
+codecs-seven : (s : List ℕ) (x : Codecs) → codecsIn s ≡ x → Option·elim (listOf x) true sevenBits ≡ true
+unfolding onCodecs Option·elim sevenBits
+codecs-seven s (allCodecs cs) p = listed s cs p .settles
+codecs-seven s (offence d) p = refl
 
-report-settled : (r : ℕ) (o : Option (List Diagnostic)) → Option·elim (Option·map (report r) o) true settled ≡ true
-unfolding Option·elim settled
-report-settled r none = refl
-report-settled r (some ds) = refl
+report-seven : (r : ℕ) (o : Option (List Diagnostic)) → Option·elim (Option·map (report r) o) true sevenBits ≡ true
+unfolding Option·elim sevenBits
+report-seven r none = refl
+report-seven r (some ds) = refl
 
 meant-small : (c : ℕ) → ltb (meant c) 128 ≡ true
 meant-small c = lt-ltb (meant c) 128 (omega arith)
 
-lasting-settled : (t : Timed) → settledLasting (lastingIn t) ≡ true
-unfolding lastingIn settledLasting
-lasting-settled Untimed = refl
-lasting-settled (LastingFor c n) = meant-small c
+lasting-seven : (t : Timed) → sevenBitLasting (lastingIn t) ≡ true
+unfolding lastingIn sevenBitLasting
+lasting-seven Untimed = refl
+lasting-seven (LastingFor c n) = meant-small c
 
-settled-in : (s : List ℕ) (v : ValuePlace) → Option·elim (valueBy s v) true settled ≡ true
-unfolding valueBy Option·elim settled
-settled-in s (Action n) = refl
-settled-in s (Backbone p) = refl
-settled-in s (Address p) = refl
-settled-in s (CodecsPlace p) = codecs-settled (textOf s p) (codecsIn (textOf s p)) refl
-settled-in s (Single c) = refl
-settled-in s (Report r p) = report-settled r (diagnosticsIn (textOf s p))
-settled-in s (Characteristics n) = refl
-settled-in s (Control p) = refl
-settled-in s (Tunnelling b) = refl
-settled-in s (UnitPlace n l) = refl
-settled-in s (Signal k t) = rw (meant-small (k .compatibility), lasting-settled t)
-settled-in s (Capability b) = refl
-settled-in s (Indicators p) = refl
-settled-in s (SignalType n) = refl
-settled-in s (Duration n) = refl
+seven-in : (s : List ℕ) (v : ValuePlace) → Option·elim (valueBy s v) true sevenBits ≡ true
+unfolding valueBy Option·elim sevenBits
+seven-in s (Action n) = refl
+seven-in s (Backbone p) = refl
+seven-in s (Address p) = refl
+seven-in s (CodecsPlace p) = codecs-seven (textOf s p) (codecsIn (textOf s p)) refl
+seven-in s (Single c) = refl
+seven-in s (Report r p) = report-seven r (diagnosticsIn (textOf s p))
+seven-in s (Characteristics n) = refl
+seven-in s (Control p) = refl
+seven-in s (Tunnelling b) = refl
+seven-in s (UnitPlace n l) = refl
+seven-in s (Signal k t) = rw (meant-small (k .compatibility), lasting-seven t)
+seven-in s (Capability b) = refl
+seven-in s (Indicators p) = refl
+seven-in s (SignalType n) = refl
+seven-in s (Duration n) = refl
 
-settled-inside : (s : List ℕ) (v : ValuePlace) → Option·elim (valueIn s v) true settled ≡ true
+seven-inside : (s : List ℕ) (v : ValuePlace) → Option·elim (valueIn s v) true sevenBits ≡ true
 unfolding valueIn Option·elim
-settled-inside s v = by-bool (allInside s v) _ (λ b. rw b (settled-in s v)) (λ b. rw b)
+seven-inside s v = by-bool (allInside s v) _ (λ b. rw b (seven-in s v)) (λ b. rw b)
 
 -- At the front of f, in n octets, stands an element that is decoded as the value that v stands for, with the compatibility bits of c.
 pub record WrittenBack (s : List ℕ) (v : ValuePlace) (c n : ℕ) (f : List ℕ) : Type 0 where
@@ -79,7 +79,7 @@ pub record WrittenBack (s : List ℕ) (v : ValuePlace) (c n : ℕ) (f : List ℕ
   pub decodes : reading (element .identifier) (element .contents) ≡ decoded value
 
 module _ (s : List ℕ) (v : ValuePlace) (c : ℕ) (l : List ℕ) (n : ℕ) (f : List ℕ) where
-  back-right : (w : Value) → valueIn s v ≡ some w → (inRange w && leb (length (valueText (meant c) w)) mostOctets) ≡ true → settled w ≡ true
+  back-right : (w : Value) → valueIn s v ≡ some w → (inRange w && leb (length (valueText (meant c) w)) mostOctets) ≡ true → sevenBits w ≡ true
       → Puts (some (valueText (meant c) w)) l (Octets n) f → WrittenBack s v c n f
   back-right w is h q p =
       let t = valueText (meant c) w in
@@ -98,7 +98,7 @@ module _ (s : List ℕ) (v : ValuePlace) (c : ℕ) (l : List ℕ) (n : ℕ) (f :
         decodes = back .decodes;
       }
 
-  back-of : (o : Option Value) → valueIn s v ≡ o → Option·elim o true settled ≡ true → Puts (octetsIn (meant c) o) l (Octets n) f → WrittenBack s v c n f
+  back-of : (o : Option Value) → valueIn s v ≡ o → Option·elim o true sevenBits ≡ true → Puts (octetsIn (meant c) o) l (Octets n) f → WrittenBack s v c n f
   unfolding octetsIn octetsOf Option·elim
   back-of none is q p = absurd (puts-no l n f p)
   back-of (some w) is q p =
@@ -107,4 +107,4 @@ module _ (s : List ℕ) (v : ValuePlace) (c : ℕ) (l : List ℕ) (n : ℕ) (f :
       (λ h. absurd (puts-no l n f (rw h at p)))
 
   pub written-back : Puts (octetsIn (meant c) (valueIn s v)) l (Octets n) f → WrittenBack s v c n f
-  written-back p = back-of (valueIn s v) refl (settled-inside s v) p
+  written-back p = back-of (valueIn s v) refl (seven-inside s v) p

@@ -22,7 +22,7 @@ use Rattle.bat.specs.Writing.{elementText, codecText, codecsText, contentsText,
 use Rattle.bat.specs.Meaning.{elementIn, frontIn, WholeLength}
 use Rattle.bat.proofs.WalkLaws.{size-small, front-size, front-nil, walk-ended, walk-unframed, walk-first, fold-ended, fold-unframed, fold-first, by-front}
 use Rattle.bat.proofs.CountLaws.{frame-ended, frame-unframed, frame-first}
-use Rattle.bat.proofs.RoundTrip.{settledCodecs}
+use Rattle.bat.proofs.RoundTrip.{sevenBitCodecs}
 use Rattle.bat_read.specs.declared.Offence.{Offence}
 use Rattle.bat_read.specs.declared.Offence.the-variants.{At, Nowhere}
 use Rattle.bat_read.specs.Examining.{offenceOf}
@@ -63,12 +63,12 @@ single-right e p = and-eq-true-iff (eqb (e .identifier) 5) (rightCodec (codecOf 
 pub record Listed (s : List ℕ) (cs : List ListedCodec) : Type 0 where
   pub text : codecsAnew s ≡ codecsText cs
   pub right : allCodecsRight cs ≡ true
-  pub settles : settledCodecs cs ≡ true
+  pub settles : sevenBitCodecs cs ≡ true
   pub many : 1 ≤ length s → 1 ≤ length cs
 
 listed-with : (s : List ℕ) (e : Element) (t : List ℕ) (x : Codecs) (cs : List ListedCodec) → front s ≡ first e t
     → ((bs : List ListedCodec) → x ≡ allCodecs bs → Listed t bs) → isSingle e ≡ true → withCodec (listedCodec e) x ≡ allCodecs cs → Listed s cs
-unfolding withCodec codecsText allCodecsRight settledCodecs
+unfolding withCodec codecsText allCodecsRight sevenBitCodecs
 listed-with s e t (offence n) cs q ih single p = absurd (let z : _≡_ {A = ℕ} 0 1 = cc in omega arith)
 listed-with s e t (allCodecs bs) cs q ih single p =
     let is : listedCodec e ∷ bs ≡ cs = cc in
@@ -83,7 +83,7 @@ listed-with s e t (allCodecs bs) cs q ih single p =
     })
 
 listed-at : (s : List ℕ) (d : ℕ) (cs : List ListedCodec) → walk codecThen offence (allCodecs []) d s ≡ allCodecs cs → Listed s cs
-unfolding codecThen codecsText allCodecsRight settledCodecs
+unfolding codecThen codecsText allCodecsRight sevenBitCodecs
 listed-at =
     by-front (λ (s : List ℕ). (d : ℕ) (cs : List ListedCodec) → walk codecThen offence (allCodecs []) d s ≡ allCodecs cs → Listed s cs)
     (λ d cs p. let w = walk-ended codecThen offence (allCodecs []) d [] front-nil in

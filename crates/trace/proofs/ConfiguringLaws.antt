@@ -28,9 +28,9 @@ use Rattle.trace.specs.declared.Phase.the-variants as phase
 use Rattle.trace.specs.declared.Session.{Session}
 use Rattle.trace.specs.declared.Stepped.{Stepped}
 use Rattle.trace.specs.Trace.{Line, configuring, ran, silent, refusing, going, behind, begun, wholly, stepped, ending}
-use Rattle.trace.specs.Meaning.{traceIn, traceBy, Does, Goes, Keeps, Fresh}
+use Rattle.trace.specs.Meaning.{traceIn, traceBy, Does, Goes, Keeps, Unused}
 
-pub kept-is : (c : Config) (e : Endpoint) (at : ℕ) → Fresh c e → Keeps (configurationBy c) at (record { session = record { phase = phase.Configuring; number = 0; endpoint = e }; at = at })
+pub kept-is : (c : Config) (e : Endpoint) (at : ℕ) → Unused c e → Keeps (configurationBy c) at (record { session = record { phase = phase.Configuring; number = 0; endpoint = e }; at = at })
 unfolding going silent traceIn
 kept-is c e at h out room = record { session = rw (h .config); printed = appending.append-nil out at; lent = refl }
 
@@ -60,7 +60,7 @@ module _ (out : List ℕ) (at : ℕ) (r : Stepped) (whole : Bool) (z : Option Co
 pub ruleset configures = (whole-kept, whole-refused, part-refused)
 
 -- ---- the first event
-pub begun-is : (c : Config) (e : Endpoint) (l : Line) (room room′ out g out′ : List ℕ) (at k : ℕ) (d : Bool) (r : Stepped) → Fresh c e
+pub begun-is : (c : Config) (e : Endpoint) (l : Line) (room room′ out g out′ : List ℕ) (at k : ℕ) (d : Bool) (r : Stepped) → Unused c e
     → Does (ran d (configurationBy (e .config)) (bookOf e) 0 l room) room′ g out′ k r → Appends out at headerLine k g
     → Does (behind headerLine (ran d (configurationBy c) idle 0 l room)) room′ out out′ at r
 unfolding behind

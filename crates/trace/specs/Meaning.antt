@@ -50,7 +50,7 @@ abbrev pub Keeps : Configuration → ℕ → Stepped → Type 0
 Keeps c at r = (out : List ℕ) → Goes (some c) out out at r
 
 -- an endpoint with this configuration, to which nothing has happened
-pub record Fresh (c : Config) (e : Endpoint) : Type 0 where
+pub record Unused (c : Config) (e : Endpoint) : Type 0 where
   pub config : e .config ≡ c
   pub book : bookOf e ≡ idle
 

@@ -10,7 +10,7 @@ ghost use Rattle.configuration.specs.Meaning.{configurationBy};
 ghost use Rattle.trace_read.specs.Configuring.{generalIn, codecIn};
 ghost use Rattle.trace_write.specs.Lines.{headerLine};
 ghost use Rattle.trace.specs.Trace.{configuring, ran, behind, wholly, stepped, ending};
-ghost use Rattle.trace.specs.Meaning.{Does, Goes, Keeps, Fresh};
+ghost use Rattle.trace.specs.Meaning.{Does, Goes, Keeps, Unused};
 use crate::Phase;
 use crate::Session;
 use crate::Stepped;
@@ -25,7 +25,7 @@ use trace_write::lines::push_refused_line;
 
 // An endpoint with this configuration, to which nothing has happened. What has been configured line by line can be used.
 fn fresh(config: Config) -> Endpoint
-    ensures { λ r. ⌜ Fresh config r ⌝ }
+    ensures { λ r. ⌜ Unused config r ⌝ }
 {
     let opening = Endpoint::new(config);
     opening.endpoint
