@@ -16,7 +16,6 @@ use Rattle.octets.proofs.CaseLaws.{by-lt}
 use Rattle.octets.proofs.RoundTrip.{number-has}
 use Rattle.address.specs.declared.Address.{Address}
 use Rattle.address.specs.declared.Address.the-variants.{V4, V6}
-use Rattle.address.specs.declared.Parsed.{Parsed}
 use Rattle.address.specs.declared.Parsed.the-variants.{Unicast}
 use Rattle.address.specs.declared.ipv6.Halves.{Halves}
 use Rattle.address.specs.declared.write.Run.{Run}
@@ -25,6 +24,7 @@ use Rattle.address.specs.Parts.{allParts, inBase}
 use Rattle.address.specs.Ipv4.{isOctet, octetValue, isDotted, dottedValue, readV4}
 use Rattle.address.specs.Ipv6.{isGroup, groupValue, kindOf, full, beforeGap, afterGap, filled, gapped, readV6}
 use Rattle.address.specs.Canonical.{joined, numbersOf, ipv4Text, groupText, fourOf, groupsOf, longestRun, shortened, ipv6Text, addressText}
+use Rattle.address.specs.Back.{fits, readLike}
 use Rattle.address.proofs.KindLaws.{kind4-is, kind6-is}
 use Rattle.address.proofs.PartLaws.{Below, none, one, below-take, below-drop, all-texts, values-texts}
 use Rattle.address.proofs.GapLaws.{has-gap, no-gap, gap-here}
@@ -185,16 +185,6 @@ ipv4-back n h e = ipv4-read n h ∙ kind4-is n e
 pub ipv6-back : (high low : ℕ) → high < 2 ^ 64 → low < 2 ^ 64 → isUnicast (V6 high low) ≡ true → readV6 (addressText (V6 high low)) ≡ Unicast (V6 high low)
 unfolding addressText
 ipv6-back high low p q e = ipv6-read high low p q ∙ kind6-is high low e
-
--- the address is a number of 32 bits, or two of 64
-unfoldable pub fits : Address → Type 0
-fits (V4 n) = n < 2 ^ 32
-fits (V6 high low) = (high < 2 ^ 64) × (low < 2 ^ 64)
-
--- the reader of the address's family
-unfoldable pub readLike : Address → List ℕ → Parsed
-readLike (V4 n) s = readV4 s
-readLike (V6 high low) s = readV6 s
 
 -- every address of one host is read from the text that is written for it
 pub address-back : (a : Address) → fits a → isUnicast a ≡ true → readLike a (addressText a) ≡ Unicast a

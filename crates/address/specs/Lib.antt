@@ -5,3 +5,4 @@ pub mod Ipv4
 pub mod Ipv6
 pub mod Canonical
 pub mod Steps
+pub mod Back

@@ -20,7 +20,7 @@ use Rattle.bat.specs.Values.{Diagnostic, Codec, ListedCodec, Kind, Lasti
 use Rattle.bat.specs.Writing.{sizeText, elementText, wordText, codecText, codecsText, diagnosticsText, lastingText, identifierOf, contentsText, allCodecsRight, inRange, valueText, octetsOf}
 use Rattle.octets.proofs.CaseLaws.{by-eq, by-lt, by-le}
 use Rattle.bat.proofs.WalkLaws.{size-small, size-low, front-within, front-size, front-length, front-nil, walk-ended, walk-unframed, walk-first, by-front}
-use Rattle.bat.proofs.RoundTrip.{sevenBitCodecs, sevenBitLasting, sevenBits}
+use Rattle.bat.specs.Back.{sevenBitCodecs, sevenBitLasting, sevenBits}
 
 -- ---- lengths
 -- `sizeText` is the shortest: no length field of as great a number is shorter.

@@ -4,7 +4,7 @@
 use Prim.Native.Nat.{ℕ, suc, _+_, _*_, _/_, _%_, _≤_, _<_}
 use mathlib.Core.Path.{_≡_, refl, _∙_}
 use mathlib.Core.List.{List, [], _∷_, _++_, append-nil, append-assoc}
-use mathlib.Core.Bool.{Bool, true, false, _&&_, and-eq-true-iff}
+use mathlib.Core.Bool.{true, false, and-eq-true-iff}
 use mathlib.Core.Option.{some, Option·elim}
 use lib.ListN.{length, length-append}
 use lib.Seq.{take-append-seam, drop-append-seam}
@@ -16,6 +16,7 @@ use Rattle.codes.specs.Codes.{isSignal}
 use Rattle.bat.specs.Framing.{sized, lengthOf, unmarked, Element, head, whole, first, countedBy, elementBy, sizedBy, front, onFront, walk, mostOctets}
 use Rattle.bat.specs.Values.{Diagnostic, ListedCodec, Kind, Lasting, untimed, lasting, Value, action, backbone, address, codecs, single, report, characteristics, control, tunnelling, controlUnit, signal, capability, indicators, signalType, duration, decoded, meant, rightCodec, actionIn, backboneIn, addressIn, singleIn, diagnosticsIn, reportIn, characteristicsIn, controlIn, tunnellingIn, unitIn, capabilityIn, indicatorsIn, rightType, typeIn, durationIn, allCodecs, offence, withCodec, onCodecs, isSingle, codecThen, codecsIn, codecListIn, isType, isDuration, lastBy, timedBy, signalBy, signalIn, reading}
 use Rattle.bat.specs.Writing.{sizeText, elementText, wordText, codecText, codecsText, diagnosticsText, lastingText, identifierOf, contentsText, allCodecsRight, inRange, valueText}
+use Rattle.bat.specs.Back.{sevenBitCodecs, sevenBitLasting, sevenBits, ReadBack}
 use Rattle.octets.proofs.CaseLaws.{by-lt}
 use Rattle.bat.proofs.WalkLaws.{front-nil, walk-ended, walk-first}
 
@@ -63,33 +64,6 @@ length-elementText i c s =
 
 meant-marked : (c : ℕ) → c < 128 → meant (128 + c) ≡ c
 meant-marked c h = omega arith
-
--- ---- inner compatibility
--- The compatibility bits of a constructor's inner elements are seven, as they are read.
-unfoldable pub sevenBitCodecs : List ListedCodec → Bool
-sevenBitCodecs [] = true
-sevenBitCodecs (c ∷ cs) = ltb (c .compatibility) 128 && sevenBitCodecs cs
-
-unfoldable pub sevenBitLasting : Lasting → Bool
-sevenBitLasting untimed = true
-sevenBitLasting (lasting c n) = ltb c 128
-
-unfoldable pub sevenBits : Value → Bool
-sevenBits (action n) = true
-sevenBits (backbone s) = true
-sevenBits (address s) = true
-sevenBits (codecs cs) = sevenBitCodecs cs
-sevenBits (single c) = true
-sevenBits (report r ds) = true
-sevenBits (characteristics n) = true
-sevenBits (control s) = true
-sevenBits (tunnelling b) = true
-sevenBits (controlUnit n l) = true
-sevenBits (signal k t) = ltb (k .compatibility) 128 && sevenBitLasting t
-sevenBits (capability b) = true
-sevenBits (indicators s) = true
-sevenBits (signalType n) = true
-sevenBits (duration n) = true
 
 -- ---- values
 -- 4
@@ -166,16 +140,6 @@ reading-contentsText (signalType n) r s h = rw r
 reading-contentsText (duration n) r s h = rw (div-add-mod' n 256)
 
 -- ---- an element as a whole
--- In front of rest the octets of a value's element are framed as one element, which has these octets and no more, the
--- value's identifier and the compatibility given, and is decoded as the value.
-pub record ReadBack (c : ℕ) (v : Value) (rest : List ℕ) : Type 0 where
-  pub element : Element
-  pub fronts : front (valueText c v ++ rest) ≡ first element rest
-  pub covers : whole element ≡ valueText c v
-  pub identifies : element .identifier ≡ identifierOf v
-  pub means : meant (element .compatibility) ≡ c
-  pub decodes : reading (element .identifier) (element .contents) ≡ decoded v
-
 pub read-written : (c : ℕ) (v : Value) (rest : List ℕ) → c < 128 → inRange v ≡ true → sevenBits v ≡ true → length (valueText c v) ≤ mostOctets → ReadBack c v rest
 unfolding valueText
 read-written c v rest small r s h =

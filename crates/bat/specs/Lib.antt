@@ -4,3 +4,4 @@ pub mod Values
 pub mod Judging
 pub mod Writing
 pub mod Meaning
+pub mod Back

@@ -18,13 +18,15 @@ use Rattle.bat.specs.declared.Timed.the-variants.{Untimed, Lasting as LastingFo
 use Rattle.bat.specs.declared.Value.{Value as ValuePlace}
 use Rattle.bat.specs.declared.Value.the-variants.{Action, Backbone, Address, Codecs as CodecsPlace, Single, Report, Characteristics, Control, Tunnelling, Unit as UnitPlace, Signal, Capability, Indicators, SignalType, Duration}
 use Rattle.octets.specs.declared.Put.the-variants.{Octets}
-use Rattle.bat.specs.Framing.{mostOctets, Element, whole, front, first}
-use Rattle.bat.specs.Values.{Diagnostic, Value, report, decoded, reading, meant, diagnosticsIn, Codecs, allCodecs, offence, onCodecs, codecsIn}
+use Rattle.bat.specs.Framing.{mostOctets}
+use Rattle.bat.specs.Values.{Diagnostic, Value, report, meant, diagnosticsIn, Codecs, allCodecs, offence, onCodecs, codecsIn}
 use Rattle.octets.specs.Puts.{Puts}
 use Rattle.bat.specs.Writing.{inRange, valueText, octetsOf, octetsIn}
 use Rattle.bat.specs.Meaning.{lastingIn, valueBy, allInside, valueIn}
-use Rattle.bat.proofs.RoundTrip.{sevenBitLasting, sevenBits, read-written}
+use Rattle.bat.specs.Back.{sevenBitLasting, sevenBits}
+use Rattle.bat.proofs.RoundTrip.{read-written}
 use Rattle.bat_write.specs.Texts.{listOf}
+use Rattle.bat_write.specs.Back.{WrittenBack}
 use Rattle.bat_write.proofs.CodecLaws.{listed}
 
 -- ---- the compatibility bits of inner elements are seven
@@ -67,16 +69,6 @@ seven-in s (Duration n) = refl
 seven-inside : (s : List ℕ) (v : ValuePlace) → Option·elim (valueIn s v) true sevenBits ≡ true
 unfolding valueIn Option·elim
 seven-inside s v = by-bool (allInside s v) _ (λ b. rw b (seven-in s v)) (λ b. rw b)
-
--- At the front of f, in n octets, stands an element that is decoded as the value that v stands for, with the compatibility bits of c.
-pub record WrittenBack (s : List ℕ) (v : ValuePlace) (c n : ℕ) (f : List ℕ) : Type 0 where
-  pub value : Value
-  pub stands : valueIn s v ≡ some value
-  pub element : Element
-  pub fronts : front f ≡ first element (drop n f)
-  pub covers : length (whole element) ≡ n
-  pub means : meant (element .compatibility) ≡ meant c
-  pub decodes : reading (element .identifier) (element .contents) ≡ decoded value
 
 module _ (s : List ℕ) (v : ValuePlace) (c : ℕ) (l : List ℕ) (n : ℕ) (f : List ℕ) where
   back-right : (w : Value) → valueIn s v ≡ some w → (inRange w && leb (length (valueText (meant c) w)) mostOctets) ≡ true → sevenBits w ≡ true

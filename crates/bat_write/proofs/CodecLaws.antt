@@ -22,7 +22,7 @@ use Rattle.bat.specs.Writing.{elementText, codecText, codecsText, contentsText,
 use Rattle.bat.specs.Meaning.{elementIn, frontIn, WholeLength}
 use Rattle.bat.proofs.WalkLaws.{size-small, front-size, front-nil, walk-ended, walk-unframed, walk-first, fold-ended, fold-unframed, fold-first, by-front}
 use Rattle.bat.proofs.CountLaws.{frame-ended, frame-unframed, frame-first}
-use Rattle.bat.proofs.RoundTrip.{sevenBitCodecs}
+use Rattle.bat.specs.Back.{sevenBitCodecs}
 use Rattle.bat_read.specs.declared.Offence.{Offence}
 use Rattle.bat_read.specs.declared.Offence.the-variants.{At, Nowhere}
 use Rattle.bat_read.specs.Examining.{offenceOf}

@@ -9,23 +9,18 @@ use Rattle.octets.specs.declared.Put.the-variants.{Octets}
 use Rattle.octets.specs.Puts.{Puts}
 use Rattle.octets.proofs.PutsLaws.{puts-no}
 use Rattle.address.specs.declared.Address.{Address}
-use Rattle.address.proofs.RoundTrip.{fits}
+use Rattle.address.specs.Back.{fits}
 use Rattle.ipbcp.specs.declared.Body.{Body}
 use Rattle.ipbcp.specs.Writing.{Content, octetsIn}
 use Rattle.ipbcp.specs.Meaning.{contentIn}
-use Rattle.ipbcp_write.proofs.Back.{puts-front, Said, said}
+use Rattle.ipbcp_write.proofs.Back.{puts-front, said}
+use Rattle.bctp.specs.Back.{Carried}
 use Rattle.bctp.specs.Packet.{rightFirst, rightSecond, hasError, versionOf, protocolOf, versionIndicator, protocolIndicator, message, openedBy, opened, packetText}
 
 -- a packet around a message holds it
 pub packet-back : (m : List ℕ) → opened (packetText m) ≡ message m
 unfolding opened openedBy rightFirst rightSecond hasError versionOf protocolOf versionIndicator protocolIndicator packetText
 packet-back m = refl
-
--- p is a packet whose message is read as the content o, with the own address
-pub record Carried (own : Address) (o : Option Content) (p : List ℕ) : Type 0 where
-  pub text : List ℕ
-  pub opens : opened p ≡ message text
-  pub says : Said own o text
 
 carried : (own : Address) → fits own → (o : Option Content) (t : Option (List ℕ)) → octetsIn own o ≡ t → (l : List ℕ) (n : ℕ) (f : List ℕ)
     → Puts (Option·map packetText t) l (Octets n) f → Carried own o (take n f)

@@ -19,9 +19,9 @@ use Rattle.address.specs.Kinds.{isUnicast}
 use Rattle.media.specs.Stream.{Stream, attributeText, rtpmapText, rtpmapLines, fmtpLines, octetsTogether, attributesFit, mostAttributes}
 use Rattle.ipbcp.specs.declared.Kind.{Kind}
 use Rattle.ipbcp.specs.Reading.{described, readMessage}
-use Rattle.ipbcp.specs.Writing.{request, accepted, confused, rejected, messageText, isToken, allTextsPlain, rightMedia, rightAttributes, rightContent, octetsOf}
+use Rattle.ipbcp.specs.Writing.{request, accepted, confused, rejected, messageText, isToken, allTextsPlain, rightMedia, rightAttributes, rightContent, octetsOf, voice}
 use Rattle.ipbcp.proofs.WrittenLaws.{media-parts, attribute-parts}
-use Rattle.ipbcp.proofs.Lengths.{number-few, voice}
+use Rattle.ipbcp.proofs.Lengths.{number-few}
 use Rattle.ipbcp.proofs.ReadRange.{read-right, content-octets}
 use Rattle.configuration.specs.Configuration.{Codec, fixed, named, Configuration, between, allVisible, rightCodec, allRight, rightTimes, rightCodecs, rightGeneral, rightConfiguration, entryIn, suits, nameOf, namedIn, noneOrInRange, mostName}
 use Rattle.bearer.specs.Bearer.{Bearer}

@@ -21,7 +21,7 @@ use Rattle.media.proofs.LimitLaws.{together-append}
 use Rattle.ipbcp.specs.declared.Kind.{Kind}
 use Rattle.ipbcp.specs.declared.Kind.the-variants.{Request, Accepted, Confused, Rejected}
 use Rattle.ipbcp.specs.Types.{wordOf}
-use Rattle.ipbcp.specs.Writing.{Content, request, accepted, confused, rejected, familyWord, hostText, versionText, originText, sessionText, connectionText, timeText, ipbcpText, ptimeLines, streamLines, kindIn, mediaLines, messageLines, messageText, rightMedia, rightAttributes, rightContent, mostWritten}
+use Rattle.ipbcp.specs.Writing.{Content, request, accepted, confused, rejected, familyWord, hostText, versionText, originText, sessionText, connectionText, timeText, ipbcpText, ptimeLines, streamLines, kindIn, mediaLines, messageLines, messageText, rightMedia, rightAttributes, rightContent, mostWritten, voice}
 use Rattle.ipbcp.proofs.WrittenLaws.{media-parts, attribute-parts}
 
 -- ---- numbers
@@ -129,13 +129,6 @@ length-bare own k = omega (arith, length-opening own k [])
 pub length-described : (own : Address) (k : Kind) (s : Stream) → rightMedia s ≡ true → rightAttributes s ≡ true → length (s .media) + length (s .transport) ≤ 12
     → length (linesText (versionText ∷ originText own ∷ sessionText ∷ connectionText own ∷ timeText ∷ ipbcpText k ∷ streamLines s)) ≤ mostWritten
 length-described own k s h j l = omega (arith, length-opening own k (streamLines s), length-stream s h j l)
-
--- media and transport of what is written, if it has a media line, have at most twelve octets together
-unfoldable pub voice : Content → Type 0
-voice (request s) = length (s .media) + length (s .transport) ≤ 12
-voice (accepted s) = length (s .media) + length (s .transport) ≤ 12
-voice confused = 0 ≤ 0
-voice rejected = 0 ≤ 0
 
 pub length-message : (own : Address) (c : Content) → rightContent c ≡ true → voice c → length (messageText own c) ≤ mostWritten
 unfolding messageText messageLines mediaLines kindIn rightContent voice

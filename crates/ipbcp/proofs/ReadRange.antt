@@ -31,10 +31,10 @@ use Rattle.ipbcp.specs.declared.Head.{Head}
 use Rattle.ipbcp.specs.declared.Head.the-variants.{Typed, Untyped}
 use Rattle.ipbcp.specs.Types.{headIn}
 use Rattle.ipbcp.specs.Reading.{refused, typed, described, linesOf, finish, isDescribed, byHead, readMessage, mostRead}
-use Rattle.ipbcp.specs.Writing.{Content, messageText, isToken, allTextsPlain, rightMedia, rightAttributes, rightContent, octetsOf, mostWritten}
+use Rattle.ipbcp.specs.Writing.{Content, messageText, isToken, allTextsPlain, rightMedia, rightAttributes, rightContent, octetsOf, mostWritten, voice}
 use Rattle.ipbcp.proofs.ReadLaws.{read-lined}
 use Rattle.ipbcp.proofs.WrittenLaws.{attribute-parts}
-use Rattle.ipbcp.proofs.Lengths.{voice, length-message}
+use Rattle.ipbcp.proofs.Lengths.{length-message}
 
 -- ---- what holds of all that is there
 unfoldable every : {A : Type 0} → (A → Type 0) → Option A → Type 0

@@ -25,7 +25,8 @@ use Rattle.address.specs.declared.Address.the-variants.{V4, V6}
 use Rattle.address.specs.declared.Parsed.the-variants.{Unicast}
 use Rattle.address.specs.Kinds.{isUnicast, onParsed}
 use Rattle.address.specs.Canonical.{addressText}
-use Rattle.address.proofs.RoundTrip.{fits, readLike, address-back}
+use Rattle.address.specs.Back.{fits, readLike}
+use Rattle.address.proofs.RoundTrip.{address-back}
 use Rattle.address.proofs.Lengths.{address-some}
 use Rattle.address.proofs.Visible.{address-has}
 use Rattle.media.specs.Stream.{Stream, mediaText, rtpmapWord, fmtpWord, ptimeWord, attributeText, rtpmapText, fmtpText, ptimeText, rtpmapLines, fmtpLines, octetsTogether, attributesFit, mostAttributes}

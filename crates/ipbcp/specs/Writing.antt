@@ -1,5 +1,5 @@
 -- Document 01, "Message, version 1": the one form in which a message is written, and the fields that can be (number 5).
-use Prim.Native.Nat.{ℕ}
+use Prim.Native.Nat.{ℕ, _+_, _≤_}
 use mathlib.Core.List.{List, [], _∷_, _++_}
 use mathlib.Core.Bool.{Bool, true, not, _&&_, cond}
 use mathlib.Core.Option.{Option, none, some}
@@ -134,3 +134,10 @@ readingOf own (request s) = described Request own s
 readingOf own (accepted s) = described Accepted own s
 readingOf own confused = typed 1 Confused
 readingOf own rejected = typed 1 Rejected
+
+-- media and transport of what is written, if it has a media line, have at most twelve octets together
+unfoldable pub voice : Content → Type 0
+voice (request s) = length (s .media) + length (s .transport) ≤ 12
+voice (accepted s) = length (s .media) + length (s .transport) ≤ 12
+voice confused = 0 ≤ 0
+voice rejected = 0 ≤ 0

@@ -11,12 +11,12 @@ use Rattle.octets.specs.declared.Put.the-variants.{Octets}
 use Rattle.octets.specs.Puts.{Puts}
 use Rattle.octets.proofs.PutsLaws.{puts-no, puts-some}
 use Rattle.address.specs.declared.Address.{Address}
-use Rattle.address.proofs.RoundTrip.{fits}
+use Rattle.address.specs.Back.{fits}
 use Rattle.ipbcp.specs.declared.Body.{Body}
-use Rattle.ipbcp.specs.Reading.{readMessage}
-use Rattle.ipbcp.specs.Writing.{Content, octetsIn, readingOf}
+use Rattle.ipbcp.specs.Writing.{Content, octetsIn}
 use Rattle.ipbcp.specs.Meaning.{contentIn}
 use Rattle.ipbcp.proofs.RoundTrip.{read-written}
+use Rattle.ipbcp_write.specs.Back.{Said}
 
 -- the first n octets are what there was to write
 pub puts-front : (o : Option (List ℕ)) (l : List ℕ) (n : ℕ) (f : List ℕ) → Puts o l (Octets n) f → o ≡ some (take n f)
@@ -25,12 +25,6 @@ puts-front (some t) l n f p =
     let (count, leaves) = puts-some t l n f p in
     let front : take n f ≡ t = rw leaves (take-at t (drop (length t) l) n (sym count)) in
     ap some (sym front)
-
--- t is a message that is read as the content o, with the own address
-pub record Said (own : Address) (o : Option Content) (t : List ℕ) : Type 0 where
-  pub content : Content
-  pub stands : o ≡ some content
-  pub reads : readMessage t ≡ readingOf own content
 
 pub said : (own : Address) → fits own → (o : Option Content) (t : List ℕ) → octetsIn own o ≡ some t → Said own o t
 unfolding octetsIn

@@ -1,7 +1,7 @@
 -- Whatever lines come, an endpoint that a trace runs has a configuration that can be used: each line of the configuration is judged
 -- when it comes, and the first event finds one codec at least.
 -- Assumes nothing.
-use Prim.Native.Nat.{ℕ, _+_, _≤_}
+use Prim.Native.Nat.{ℕ, _+_}
 use mathlib.Core.Path.{_≡_, refl, subst}
 use mathlib.Core.List.{List, [], _∷_, _++_}
 use mathlib.Core.Bool.{Bool, true, false, _&&_, cond}
@@ -24,19 +24,7 @@ use Rattle.trace_read.specs.Configuring.{hostIn, general, usable, timesOf, gene
 use Rattle.trace_read.specs.Words.{fieldsOf, generalWord}
 use Rattle.trace_read.specs.Events.{led}
 use Rattle.trace.specs.Trace.{Trace, start, configuring, running, stopped, Line, judged, handled, lentTo, ran, silent, refusing, going, behind, begun, wholly, stepped}
-
--- the configuration can be used, but that it may have no codec yet
-pub record Begun (c : Configuration) : Type 0 where
-  pub general : rightGeneral c ≡ true
-  pub codecs : allRight (c .codecs) ≡ true
-  pub few : length (c .codecs) ≤ mostCodecs
-
--- what holds of a trace's configuration
-abbrev pub Right : Trace → Type 0
-Right start = Unit {0}
-Right (configuring c) = Begun c
-Right (running c k n) = rightConfiguration c ≡ true
-Right stopped = Unit {0}
+use Rattle.trace.specs.Right.{Begun, Right}
 
 -- ---- what holds of something, if there is something
 record Each {A : Type 0} (P : A → Type 0) (x : Option A) : Type 0 where
