@@ -123,19 +123,25 @@ def separate(rng, line):
     return b""
 
 
+def rearrange(rng, items, what):
+    """Changes the list: two items are swapped (0), one is left out (1), or one is put in a second time (2)."""
+    i, j = rng.randrange(len(items)), rng.randrange(len(items))
+    if what == 0:
+        items[i], items[j] = items[j], items[i]
+    elif what == 1:
+        del items[i]
+    else:
+        items.insert(i, items[j])
+
+
 def refield(rng, line, separator):
     """line with its fields swapped, left out, doubled, or a number at the edge of a range."""
     fields = line.split(separator)
-    i, j = rng.randrange(len(fields)), rng.randrange(len(fields))
     what = rng.randrange(6)
-    if what == 0:
-        fields[i], fields[j] = fields[j], fields[i]
-    elif what == 1:
-        del fields[i]
-    elif what == 2:
-        fields.insert(i, fields[j])
+    if what < 3:
+        rearrange(rng, fields, what)
     else:
-        numbers = [k for k in range(1, len(fields)) if len(fields[k]) < 6] or [i]
+        numbers = [k for k in range(1, len(fields)) if len(fields[k]) < 6] or [rng.randrange(len(fields))]
         fields[rng.choice(numbers)] = rng.choice(EDGES)
     return separator.join(fields)
 
@@ -292,14 +298,10 @@ WRONG = (b"x=1", b"a=ipbcp:1 Request", b"a=rtpmap:8 PCMA/8000", b"a=fmtp:", b"a=
 def reline(rng, lines):
     """lines with one of them changed, moved, doubled, left out or put in."""
     lines = list(lines)
-    i, j = rng.randrange(len(lines)), rng.randrange(len(lines))
+    i = rng.randrange(len(lines))
     what = rng.randrange(8)
-    if what == 0:
-        lines[i], lines[j] = lines[j], lines[i]
-    elif what == 1:
-        del lines[i]
-    elif what == 2:
-        lines.insert(i, lines[j])
+    if what < 3:
+        rearrange(rng, lines, what)
     elif what == 3:
         lines[i] = touch(rng, lines[i])
     elif what == 4:
