@@ -17,12 +17,12 @@ use Rattle.book.specs.Book.{idle}
 use Rattle.configuration.specs.declared.Config.{Config}
 use Rattle.configuration.specs.declared.Entry.{Entry}
 use Rattle.configuration.specs.Configuration.{Codec, Configuration, entryIn}
-use Rattle.configuration.specs.Meaning.{codecBy, codecsBy, configurationBy, entryBy}
+use Rattle.configuration.specs.Meaning.{codecBy, codecsBy, configurationBy, entryBy, configInside}
 use Rattle.endpoint.specs.declared.Endpoint.{Endpoint}
 use Rattle.endpoint.specs.Step.{bookOf}
 use Rattle.trace_read.specs.declared.Configured.{Configured}
 use Rattle.trace_read.specs.Configuring.{isCodecLine, codecIn, generalIn}
-use Rattle.trace_read.specs.Meaning.{configuredBy}
+use Rattle.trace_read.specs.Meaning.{configuredBy, Configures}
 use Rattle.trace_write.specs.Lines.{headerLine, refusedLine}
 use Rattle.trace.specs.declared.Phase.the-variants as phase
 use Rattle.trace.specs.declared.Session.{Session}
@@ -30,43 +30,57 @@ use Rattle.trace.specs.declared.Stepped.{Stepped}
 use Rattle.trace.specs.Trace.{Line, configuring, ran, silent, refusing, going, behind, begun, wholly, stepped, ending}
 use Rattle.trace.specs.Meaning.{traceIn, traceBy, Does, Goes, Keeps, Unused}
 
-pub kept-is : (c : Config) (e : Endpoint) (at : ℕ) → Unused c e → Keeps (configurationBy c) at (record { session = record { phase = phase.Configuring; number = 0; endpoint = e }; at = at })
+pub kept-is : (c : Config) (e : Endpoint) (at : ℕ) → Unused c e → Keeps (configInside c) (configurationBy c) at (record { session = record { phase = phase.Configuring; number = 0; endpoint = e }; at = at })
 unfolding going silent traceIn
-kept-is c e at h out room = record { session = rw (h .config); printed = appending.append-nil out at; lent = refl }
+kept-is c e at h out room = record { session = rw (h .config); printed = appending.append-nil out at; lent = refl; inside = λ b. rw (h .config) b }
 
 pub refused-is : (e : Endpoint) (out out′ : List ℕ) (at k : ℕ) → Appends out at refusedLine k out′
-    → Goes none out out′ at (record { session = record { phase = phase.Stopped; number = 0; endpoint = e }; at = k })
+    → Goes (configInside (e .config)) none out out′ at (record { session = record { phase = phase.Stopped; number = 0; endpoint = e }; at = k })
 unfolding going refusing traceIn
-refused-is e out out′ at k a room = record { session = refl; printed = a; lent = refl }
+refused-is e out out′ at k a room = record { session = refl; printed = a; lent = refl; inside = λ b. b }
 
 -- ---- a line of the configuration, for which z stands
-module _ (out : List ℕ) (at : ℕ) (r : Stepped) (whole : Bool) (z : Option Configuration) where
-  pub whole-kept : (g : Configured) → configuredBy g ≡ z → whole ≡ true → g .right ≡ true → Keeps (configurationBy (g .config)) at r → Goes (wholly whole z) out out at r
+module _ (b : Bool) (out : List ℕ) (at : ℕ) (r : Stepped) (whole : Bool) (z : Option Configuration) where
+  kept-whole : (before : Bool) → (b ≡ true → before ≡ true) → (g : Configured) → Configures before z g → whole ≡ true → g .right ≡ true
+      → Keeps (configInside (g .config)) (configurationBy (g .config)) at r → Goes b (wholly whole z) out out at r
   unfolding wholly configuredBy
-  whole-kept g e h p x room =
-      let y : some (configurationBy (g .config)) ≡ z = rw p at e in
-      rw (h, ← y) (x out room)
+  kept-whole before j g e h p x room =
+      let i = e .is in
+      let y : some (configurationBy (g .config)) ≡ z = rw p at i in
+      let d = x out room in
+      let n : going room (some (configurationBy (g .config))) ≡ going room (wholly whole z) = rw (h, ← y) in
+      let w : Does (configInside (g .config)) (going room (wholly whole z)) room out out at r = rw n at d in
+      record { session = w .session; printed = w .printed; lent = w .lent; inside = λ k. w .inside (e .inside (j k) p) }
 
-  pub whole-refused : (out′ : List ℕ) (g : Configured) → configuredBy g ≡ z → whole ≡ true → g .right ≡ false → Goes none out out′ at r → Goes (wholly whole z) out out′ at r
+  -- a `G` line, whatever was before
+  pub whole-kept : (g : Configured) → Configures true z g → whole ≡ true → g .right ≡ true → Keeps (configInside (g .config)) (configurationBy (g .config)) at r → Goes b (wholly whole z) out out at r
+  whole-kept g e h p x = kept-whole true (λ k. refl) g e h p x
+
+  -- a `K` line
+  pub whole-added : (g : Configured) → Configures b z g → whole ≡ true → g .right ≡ true → Keeps (configInside (g .config)) (configurationBy (g .config)) at r → Goes b (wholly whole z) out out at r
+  whole-added g e h p x = kept-whole b (λ k. k) g e h p x
+
+  pub whole-refused : (before : Bool) (out′ : List ℕ) (g : Configured) → Configures before z g → whole ≡ true → g .right ≡ false → Goes b none out out′ at r → Goes b (wholly whole z) out out′ at r
   unfolding wholly configuredBy
-  whole-refused out′ g e h p x room =
-      let y : none ≡ z = rw p at e in
+  whole-refused before out′ g e h p x room =
+      let i = e .is in
+      let y : none ≡ z = rw p at i in
       rw (h, ← y) (x room)
 
-  pub part-refused : (out′ : List ℕ) → whole ≡ false → Goes none out out′ at r → Goes (wholly whole z) out out′ at r
+  pub part-refused : (out′ : List ℕ) → whole ≡ false → Goes b none out out′ at r → Goes b (wholly whole z) out out′ at r
   unfolding wholly
   part-refused out′ h x room = rw h (x room)
 
-pub ruleset configures = (whole-kept, whole-refused, part-refused)
+pub ruleset configures = (whole-kept, whole-added, whole-refused, part-refused)
 
 -- ---- the first event
 pub begun-is : (c : Config) (e : Endpoint) (l : Line) (room room′ out g out′ : List ℕ) (at k : ℕ) (d : Bool) (r : Stepped) → Unused c e
-    → Does (ran d (configurationBy (e .config)) (bookOf e) 0 l room) room′ g out′ k r → Appends out at headerLine k g
-    → Does (behind headerLine (ran d (configurationBy c) idle 0 l room)) room′ out out′ at r
+    → Does (configInside (e .config)) (ran d (configurationBy (e .config)) (bookOf e) 0 l room) room′ g out′ k r → Appends out at headerLine k g
+    → Does (configInside c) (behind headerLine (ran d (configurationBy c) idle 0 l room)) room′ out out′ at r
 unfolding behind
 begun-is c e l room room′ out g out′ at k d r f x a =
-    let y : Does (ran d (configurationBy c) idle 0 l room) room′ g out′ k r = rw (f .config, f .book) at x in
-    record { session = y .session; printed = append-then out g out′ headerLine _ at k (r .at) (y .printed) a; lent = y .lent }
+    let y : Does (configInside c) (ran d (configurationBy c) idle 0 l room) room′ g out′ k r = rw (f .config, f .book) at x in
+    record { session = y .session; printed = append-then out g out′ headerLine _ at k (r .at) (y .printed) a; lent = y .lent; inside = y .inside }
 
 -- ---- whether there is a codec
 first-known : (ks : List Codec) (e : Entry) → entryBy e ≡ entryIn ks 1 → e .known ≡ not (eqb (length ks) 0)
@@ -90,21 +104,21 @@ not-false u true e h = refl
 not-false u false e h = let z : true ≡ false = sym e ∙ h in let y : _≡_ {A = ℕ} 0 1 = cc in absurd (omega arith)
 
 -- ---- a line behind the `G` line
-module _ (c : Config) (l : Line) (room room′ out out′ : List ℕ) (at : ℕ) (d t : Bool) (r : Stepped) (e : t ≡ isCodecLine (l .text)) where
-  pub codec-line : t ≡ true → Goes (wholly (l .whole) (codecIn (configurationBy c) (l .text))) out out′ at r
-      → Does (stepped d (configuring (configurationBy c)) l room) room out out′ at r
+module _ (b : Bool) (c : Config) (l : Line) (room room′ out out′ : List ℕ) (at : ℕ) (d t : Bool) (r : Stepped) (e : t ≡ isCodecLine (l .text)) where
+  pub codec-line : t ≡ true → Goes b (wholly (l .whole) (codecIn (configurationBy c) (l .text))) out out′ at r
+      → Does b (stepped d (configuring (configurationBy c)) l room) room out out′ at r
   unfolding stepped
   codec-line h x = let z : isCodecLine (l .text) ≡ true = sym e ∙ h in rw z (x room)
 
   module _ (u : Bool) (f : u ≡ not (eqb (length (configurationBy c .codecs)) 0)) where
-    pub no-codec : t ≡ false → u ≡ false → Goes none out out′ at r → Does (stepped d (configuring (configurationBy c)) l room) room out out′ at r
+    pub no-codec : t ≡ false → u ≡ false → Goes b none out out′ at r → Does b (stepped d (configuring (configurationBy c)) l room) room out out′ at r
     unfolding stepped begun going
     no-codec h n x =
         let z : isCodecLine (l .text) ≡ false = sym e ∙ h in
         rw (z, not-false u (eqb (length (configurationBy c .codecs)) 0) f n) (x room)
 
-    pub first-event : t ≡ false → u ≡ true → Does (behind headerLine (ran d (configurationBy c) idle 0 l room)) room′ out out′ at r
-        → Does (stepped d (configuring (configurationBy c)) l room) room′ out out′ at r
+    pub first-event : t ≡ false → u ≡ true → Does b (behind headerLine (ran d (configurationBy c) idle 0 l room)) room′ out out′ at r
+        → Does b (stepped d (configuring (configurationBy c)) l room) room′ out out′ at r
     unfolding stepped begun
     first-event h n x =
         let z : isCodecLine (l .text) ≡ false = sym e ∙ h in
@@ -125,24 +139,24 @@ module _ (c : Config) (u : Bool) (f : u ≡ not (eqb (length (configurationBy c 
 pub ruleset closings = (end-codecs, end-none)
 
 -- ---- a line, by how far the trace has come
-module _ (s : Session) (l : Line) (room room′ out out′ : List ℕ) (at : ℕ) (d : Bool) (r : Stepped) where
-  pub step-start : s .phase ≡ phase.Start → Goes (wholly (l .whole) (generalIn (l .text))) out out′ at r → Does (stepped d (traceBy s) l room) room out out′ at r
+module _ (b : Bool) (s : Session) (l : Line) (room room′ out out′ : List ℕ) (at : ℕ) (d : Bool) (r : Stepped) where
+  pub step-start : s .phase ≡ phase.Start → Goes b (wholly (l .whole) (generalIn (l .text))) out out′ at r → Does b (stepped d (traceBy s) l room) room out out′ at r
   unfolding stepped traceIn
   step-start h x = rw h (x room)
 
-  pub step-configuring : s .phase ≡ phase.Configuring → Does (stepped d (configuring (configurationBy (s .endpoint .config))) l room) room′ out out′ at r
-      → Does (stepped d (traceBy s) l room) room′ out out′ at r
+  pub step-configuring : s .phase ≡ phase.Configuring → Does b (stepped d (configuring (configurationBy (s .endpoint .config))) l room) room′ out out′ at r
+      → Does b (stepped d (traceBy s) l room) room′ out out′ at r
   unfolding traceIn
   step-configuring h x = rw h x
 
-  pub step-running : s .phase ≡ phase.Running → Does (ran d (configurationBy (s .endpoint .config)) (bookOf (s .endpoint)) (s .number) l room) room′ out out′ at r
-      → Does (stepped d (traceBy s) l room) room′ out out′ at r
+  pub step-running : s .phase ≡ phase.Running → Does b (ran d (configurationBy (s .endpoint .config)) (bookOf (s .endpoint)) (s .number) l room) room′ out out′ at r
+      → Does b (stepped d (traceBy s) l room) room′ out out′ at r
   unfolding stepped traceIn
   step-running h x = rw h x
 
-pub step-stopped : (s : Session) (l : Line) (room out : List ℕ) (at : ℕ) (d : Bool) → s .phase ≡ phase.Stopped → Does (stepped d (traceBy s) l room) room out out at (record { session = s; at = at })
+pub step-stopped : (s : Session) (l : Line) (room out : List ℕ) (at : ℕ) (d : Bool) → s .phase ≡ phase.Stopped → Does (configInside (s .endpoint .config)) (stepped d (traceBy s) l room) room out out at (record { session = s; at = at })
 unfolding stepped silent traceIn
-step-stopped s l room out at d h = record { session = rw h; printed = rw h (appending.append-nil out at); lent = rw h }
+step-stopped s l room out at d h = record { session = rw h; printed = rw h (appending.append-nil out at); lent = rw h; inside = λ b. b }
 
 pub ruleset steps = (step-start, step-configuring, step-running, step-stopped)
 

@@ -21,7 +21,7 @@ use Rattle.book.specs.Book.{stateOf, settled, moved, answered, refusal, answer}
 use Rattle.book.specs.Book as told
 use Rattle.book.specs.States.{holdsAt}
 use Rattle.media.specs.Stream.{Stream}
-use Rattle.configuration.specs.Meaning.{configurationBy}
+use Rattle.configuration.specs.Meaning.{configurationBy, configInside}
 use Rattle.bearer.specs.Bearer.{Bearer}
 use Rattle.bearer.specs.declared.Bearer as held
 use Rattle.bearer.specs.Meaning.{requestBy, bearerBy, heldIf}
@@ -114,7 +114,7 @@ front-octets (answer s n o d) w room = rw append-assoc (take-at o _ (length o) r
 module _ (self : Endpoint) (call : Call) (m room room′ out out′ : List ℕ) (w n at k : ℕ) (d : Bool) (r : Answer) where
   pub handled-is : DidFront self (eventOf call m) w room room′ r → w ≤ length room
       → Appends out at (lineText d n (some (eventOf call [])) (self .state) (r .reply) (take (writtenBy (r .reply)) room′) (forceBy (r .endpoint))) k out′
-      → Does (handled d (configurationBy (self .config)) (bookOf self) n (some (eventOf call m)) room w) room′ out out′ at
+      → Does (configInside (self .config)) (handled d (configurationBy (self .config)) (bookOf self) n (some (eventOf call m)) room w) room′ out out′ at
       (record { session = record { phase = Running; number = n; endpoint = r .endpoint }; at = k })
   unfolding handled judged verdictOn traceIn
   handled-is h l a =
@@ -130,6 +130,7 @@ module _ (self : Endpoint) (call : Call) (m room room′ out out′ : List ℕ) 
         session = rw (g .config, g .book);
         printed = rw (line-same d n call m) (rw (← state-is self, o, f, g .reply) at a);
         lent = z;
+        inside = λ b. rw (g .config) b;
       }
 
 -- ---- a line that is no event
@@ -143,33 +144,34 @@ passed-is self out g out′ n at k k₂ d b a room w =
       session = refl;
       printed = rw (state-is self, ← force-is self) (append-then out g out′ _ _ at k k₂ b a);
       lent = sym (take-append-drop w room);
+      inside = λ b. b;
     }
 
 -- ---- a message, whose octets were read into 600 zeros
 module _ (self : Endpoint) (t f room out out′ : List ℕ) (w n at : ℕ) (d u : Bool) (r : Stepped) (p : ReadsOctets t (replicate 600 0) u f) where
   pub heard-is : (m room′ : List ℕ) → u ≡ true → m ≡ take (length t / 2) f
-      → Does (handled d (configurationBy (self .config)) (bookOf self) n (some (eventOf Message m)) room w) room′ out out′ at r
-      → Does (handled d (configurationBy (self .config)) (bookOf self) n (messageBy t) room w) room′ out out′ at r
+      → Does (configInside (self .config)) (handled d (configurationBy (self .config)) (bookOf self) n (some (eventOf Message m)) room w) room′ out out′ at r
+      → Does (configInside (self .config)) (handled d (configurationBy (self .config)) (bookOf self) n (messageBy t) room w) room′ out out′ at r
   unfolding messageBy
   heard-is m room′ y q x =
       let (h, e) = read-back t (replicate 600 0) f (rw y at p) in
       rw h (rw (q, e) at x)
 
   pub unheard-is : u ≡ false → Hearable t room w → Passes d self n out out′ at r
-      → Does (handled d (configurationBy (self .config)) (bookOf self) n (messageBy t) room w) room out out′ at r
+      → Does (configInside (self .config)) (handled d (configurationBy (self .config)) (bookOf self) n (messageBy t) room w) room out out′ at r
   unfolding messageBy
   unheard-is y h x = rw (read-wrong t (replicate 600 0) f (rw y at p) (h .octets)) (x room w)
 
 -- ---- a line, once what it asks for is taken off
 module _ (self : Endpoint) (s room out out′ : List ℕ) (asked n at : ℕ) (d : Bool) (r : Stepped) where
   pub broken-is : (whole : Bool) → whole ≡ false → Passes d self n out out′ at r
-      → Does (lentTo d (configurationBy (self .config)) (bookOf self) n whole room (record { room = asked; text = s })) room out out′ at r
+      → Does (configInside (self .config)) (lentTo d (configurationBy (self .config)) (bookOf self) n whole room (record { room = asked; text = s })) room out out′ at r
   unfolding lentTo askedIn
   broken-is whole h x = rw h (x room (min asked (length room)))
 
   module _ (whole : Bool) (y : Asked) (h : whole ≡ true) (e : Asks s y) where
     pub nothing-is : y ≡ reading.Nothing → Passes d self n out out′ at r
-        → Does (lentTo d (configurationBy (self .config)) (bookOf self) n whole room (record { room = asked; text = s })) room out out′ at r
+        → Does (configInside (self .config)) (lentTo d (configurationBy (self .config)) (bookOf self) n whole room (record { room = asked; text = s })) room out out′ at r
     unfolding lentTo askedIn askedBy
     nothing-is q x =
         let i : askedBy s y ≡ eventIn s = e .is in
@@ -177,8 +179,8 @@ module _ (self : Endpoint) (s room out out′ : List ℕ) (asked n at : ℕ) (d 
         rw (h, ← z) (x room (min asked (length room)))
 
     pub event-is : (call : Call) (w : ℕ) (m room′ : List ℕ) → y ≡ reading.Event call → w ≡ min asked (length room) → m ≡ []
-        → Does (handled d (configurationBy (self .config)) (bookOf self) n (some (eventOf call m)) room w) room′ out out′ at r
-        → Does (lentTo d (configurationBy (self .config)) (bookOf self) n whole room (record { room = asked; text = s })) room′ out out′ at r
+        → Does (configInside (self .config)) (handled d (configurationBy (self .config)) (bookOf self) n (some (eventOf call m)) room w) room′ out out′ at r
+        → Does (configInside (self .config)) (lentTo d (configurationBy (self .config)) (bookOf self) n whole room (record { room = asked; text = s })) room′ out out′ at r
     unfolding lentTo askedIn askedBy
     event-is call w m room′ q p o x =
         let i : askedBy s y ≡ eventIn s = e .is in
@@ -186,8 +188,8 @@ module _ (self : Endpoint) (s room out out′ : List ℕ) (asked n at : ℕ) (d 
         rw (h, ← z, ← p) (rw o at x)
 
     pub digits-is : (w : ℕ) (t room′ : List ℕ) → y ≡ reading.Digits → w ≡ min asked (length room) → t ≡ drop 2 s
-        → Does (handled d (configurationBy (self .config)) (bookOf self) n (messageBy t) room w) room′ out out′ at r
-        → Does (lentTo d (configurationBy (self .config)) (bookOf self) n whole room (record { room = asked; text = s })) room′ out out′ at r
+        → Does (configInside (self .config)) (handled d (configurationBy (self .config)) (bookOf self) n (messageBy t) room w) room′ out out′ at r
+        → Does (configInside (self .config)) (lentTo d (configurationBy (self .config)) (bookOf self) n whole room (record { room = asked; text = s })) room′ out out′ at r
     unfolding lentTo askedIn askedBy
     digits-is w t room′ q p o x =
         let i : askedBy s y ≡ eventIn s = e .is in
@@ -215,8 +217,8 @@ pub ruleset numbers = (number-more, number-last)
 -- ---- any line behind the configuration
 pub ran-is : (self : Endpoint) (line s room room′ out out′ : List ℕ) (number n at : ℕ) (d whole : Bool) (p : places.Lent) (r : Stepped)
     → lentBy line p ≡ lentIn d line → s ≡ drop (p .at) line → n ≡ following number
-    → Does (lentTo d (configurationBy (self .config)) (bookOf self) n whole room (record { room = p .room; text = s })) room′ out out′ at r
-    → Does (ran d (configurationBy (self .config)) (bookOf self) number (record { text = line; whole = whole }) room) room′ out out′ at r
+    → Does (configInside (self .config)) (lentTo d (configurationBy (self .config)) (bookOf self) n whole room (record { room = p .room; text = s })) room′ out out′ at r
+    → Does (configInside (self .config)) (ran d (configurationBy (self .config)) (bookOf self) number (record { text = line; whole = whole }) room) room′ out out′ at r
 unfolding ran lentBy
 ran-is self line s room room′ out out′ number n at d whole p r e q h x = rw (← e, ← q, ← h) x
 

@@ -2,7 +2,7 @@
 use Prim.Native.Nat.{ℕ, _/_, _≤_}
 use mathlib.Core.Path.{_≡_}
 use mathlib.Core.List.{List, _++_}
-use mathlib.Core.Bool.{Bool}
+use mathlib.Core.Bool.{Bool, true}
 use mathlib.Core.Option.{Option, none, some}
 use lib.ListN.{length, take, drop}
 use Rattle.octets.specs.Append.{Appends}
@@ -10,7 +10,7 @@ use Rattle.book.specs.Book.{idle}
 use Rattle.book.specs.States.{holdsAt}
 use Rattle.configuration.specs.declared.Config.{Config}
 use Rattle.configuration.specs.Configuration.{Configuration}
-use Rattle.configuration.specs.Meaning.{configurationBy}
+use Rattle.configuration.specs.Meaning.{configurationBy, configInside}
 use Rattle.bearer.specs.Bearer.{Bearer}
 use Rattle.bearer.specs.Meaning.{bearerBy, heldIf}
 use Rattle.endpoint.specs.declared.Endpoint.{Endpoint}
@@ -34,20 +34,22 @@ traceIn Stopped n e = stopped
 abbrev pub traceBy : Session → Trace
 traceBy s = traceIn (s .phase) (s .number) (s .endpoint)
 
--- The step x: r has the trace that it leaves, what it prints is appended to out at `at`, and the lent buffer holds what it leaves.
-pub record Does (x : Step) (room′ out out′ : List ℕ) (at : ℕ) (r : Stepped) : Type 0 where
+-- The step x: r has the trace that it leaves, what it prints is appended to out at `at`, and the lent buffer holds what it leaves. No
+-- count or length of the configuration goes past its array, where b says that none did before.
+pub record Does (b : Bool) (x : Step) (room′ out out′ : List ℕ) (at : ℕ) (r : Stepped) : Type 0 where
   pub session : traceBy (r .session) ≡ x .next
   pub printed : Appends out at (x .printed) (r .at) out′
   pub lent : room′ ≡ x .lent
+  pub inside : b ≡ true → configInside (r .session .endpoint .config) ≡ true
 
 -- ---- for the private functions
 -- what a line of the configuration does, whatever the buffer: it goes on with c, or is refused
-abbrev pub Goes : Option Configuration → List ℕ → List ℕ → ℕ → Stepped → Type 0
-Goes c out out′ at r = (room : List ℕ) → Does (going room c) room out out′ at r
+abbrev pub Goes : Bool → Option Configuration → List ℕ → List ℕ → ℕ → Stepped → Type 0
+Goes b c out out′ at r = (room : List ℕ) → Does b (going room c) room out out′ at r
 
 -- nothing is printed
-abbrev pub Keeps : Configuration → ℕ → Stepped → Type 0
-Keeps c at r = (out : List ℕ) → Goes (some c) out out at r
+abbrev pub Keeps : Bool → Configuration → ℕ → Stepped → Type 0
+Keeps b c at r = (out : List ℕ) → Goes b (some c) out out at r
 
 -- an endpoint with this configuration, to which nothing has happened
 pub record Unused (c : Config) (e : Endpoint) : Type 0 where
@@ -57,7 +59,7 @@ pub record Unused (c : Config) (e : Endpoint) : Type 0 where
 -- a line that is no event, whatever the buffer
 abbrev pub Passes : Bool → Endpoint → ℕ → List ℕ → List ℕ → ℕ → Stepped → Type 0
 Passes detailed e n out out′ at r =
-    (room : List ℕ) (w : ℕ) → Does (handled detailed (configurationBy (e .config)) (bookOf e) n none room w) room out out′ at r
+    (room : List ℕ) (w : ℕ) → Does (configInside (e .config)) (handled detailed (configurationBy (e .config)) (bookOf e) n none room w) room out out′ at r
 
 -- how many octets a reply says were written
 unfoldable pub writtenBy : Reply → ℕ

@@ -6,7 +6,7 @@ ghost use lib.ListN.{length};
 ghost use lib.Dec.{eqb};
 ghost use Rattle.octets.specs.Append.{Appends};
 ghost use Rattle.book.specs.Book.{idle};
-ghost use Rattle.configuration.specs.Meaning.{configurationBy};
+ghost use Rattle.configuration.specs.Meaning.{configurationBy, configInside};
 ghost use Rattle.trace_read.specs.Configuring.{generalIn, codecIn};
 ghost use Rattle.trace_write.specs.Lines.{headerLine};
 ghost use Rattle.trace.specs.Trace.{configuring, ran, behind, wholly, stepped, ending};
@@ -41,7 +41,7 @@ fn has_codec(config: Config) -> bool
 
 // A session that goes on being configured.
 fn keep(config: Config, at: usize) -> Stepped
-    ensures { λ r. ⌜ Keeps (configurationBy config) at r ⌝ }
+    ensures { λ r. ⌜ Keeps (configInside config) (configurationBy config) at r ⌝ }
 {
     Stepped {
         session: Session {
@@ -56,7 +56,7 @@ fn keep(config: Config, at: usize) -> Stepped
 impl Session {
     // The configuration can't be used.
     fn refuse(self, out: &mut [u8], at: usize) -> Stepped
-        ensures { λ r. ⌜ Goes none (now (out .entry)) (now (out .exit)) at r ⌝ }
+        ensures { λ r. ⌜ Goes (configInside (self .endpoint .config)) none (now (out .entry)) (now (out .exit)) at r ⌝ }
     {
         let k = push_refused_line(out, at);
         let endpoint = self.endpoint;
@@ -72,7 +72,7 @@ impl Session {
 
     // The first line of all.
     pub(crate) fn open(self, line: &[u8], whole: bool, out: &mut [u8], at: usize) -> Stepped
-        ensures { λ r. ⌜ Goes (wholly whole (generalIn (now (line .entry)))) (now (out .entry)) (now (out .exit)) at r ⌝ }
+        ensures { λ r. ⌜ Goes (configInside (self .endpoint .config)) (wholly whole (generalIn (now (line .entry)))) (now (out .entry)) (now (out .exit)) at r ⌝ }
     {
         if whole {
             let read = read_general(line);
@@ -88,7 +88,7 @@ impl Session {
 
     // A line in the run of `K` lines.
     fn add(self, line: &[u8], whole: bool, out: &mut [u8], at: usize) -> Stepped
-        ensures { λ r. ⌜ Goes (wholly whole (codecIn (configurationBy (self .endpoint .config)) (now (line .entry)))) (now (out .entry)) (now (out .exit)) at r ⌝ }
+        ensures { λ r. ⌜ Goes (configInside (self .endpoint .config)) (wholly whole (codecIn (configurationBy (self .endpoint .config)) (now (line .entry)))) (now (out .entry)) (now (out .exit)) at r ⌝ }
     {
         if whole {
             let endpoint = self.endpoint;
@@ -114,7 +114,7 @@ impl Session {
         out: &mut [u8],
         at: usize,
     ) -> Stepped
-        ensures { λ r. ⌜ Does (behind headerLine (ran detailed (configurationBy (self .endpoint .config)) idle 0 (record { text = now (line .entry); whole = whole }) (now (room .entry)))) (now (room .exit)) (now (out .entry)) (now (out .exit)) at r ⌝ }
+        ensures { λ r. ⌜ Does (configInside (self .endpoint .config)) (behind headerLine (ran detailed (configurationBy (self .endpoint .config)) idle 0 (record { text = now (line .entry); whole = whole }) (now (room .entry)))) (now (room .exit)) (now (out .entry)) (now (out .exit)) at r ⌝ }
     {
         let before = self.endpoint;
         let config = before.config;
@@ -137,7 +137,7 @@ impl Session {
         out: &mut [u8],
         at: usize,
     ) -> Stepped
-        ensures { λ r. ⌜ Does (stepped detailed (configuring (configurationBy (self .endpoint .config))) (record { text = now (line .entry); whole = whole }) (now (room .entry))) (now (room .exit)) (now (out .entry)) (now (out .exit)) at r ⌝ }
+        ensures { λ r. ⌜ Does (configInside (self .endpoint .config)) (stepped detailed (configuring (configurationBy (self .endpoint .config))) (record { text = now (line .entry); whole = whole }) (now (room .entry))) (now (room .exit)) (now (out .entry)) (now (out .exit)) at r ⌝ }
     {
         if is_codec_line(line) {
             return self.add(line, whole, out, at);

@@ -7,7 +7,7 @@ ghost use Prim.Native.Nat.{_≤_, min};
 ghost use lib.ListN.{length, take};
 ghost use Rattle.octets.specs.Append.{Appends};
 ghost use Rattle.book.specs.States.{holdsAt};
-ghost use Rattle.configuration.specs.Meaning.{configurationBy};
+ghost use Rattle.configuration.specs.Meaning.{configurationBy, configInside};
 ghost use Rattle.bearer.specs.Meaning.{bearerBy, heldIf};
 ghost use Rattle.endpoint.specs.Call.{eventOf};
 ghost use Rattle.endpoint.specs.Step.{bookOf};
@@ -142,7 +142,7 @@ fn handle(
     at: usize,
 ) -> Stepped
     requires { ⌜ w ≤ length (now room) ⌝ }
-    ensures { λ r. ⌜ Does (handled detailed (configurationBy (endpoint .config)) (bookOf endpoint) n (some (eventOf call (now (m .entry)))) (now (room .entry)) w) (now (room .exit)) (now (out .entry)) (now (out .exit)) at r ⌝ }
+    ensures { λ r. ⌜ Does (configInside (endpoint .config)) (handled detailed (configurationBy (endpoint .config)) (bookOf endpoint) n (some (eventOf call (now (m .entry)))) (now (room .entry)) w) (now (room .exit)) (now (out .entry)) (now (out .exit)) at r ⌝ }
 {
     let state = endpoint.state;
     let answer = give(endpoint, call, m, room, w);
@@ -170,7 +170,7 @@ fn hear(
     at: usize,
 ) -> Stepped
     requires { ⌜ Hearable (now t) (now room) w ⌝ }
-    ensures { λ r. ⌜ Does (handled detailed (configurationBy (endpoint .config)) (bookOf endpoint) n (messageBy (now (t .entry))) (now (room .entry)) w) (now (room .exit)) (now (out .entry)) (now (out .exit)) at r ⌝ }
+    ensures { λ r. ⌜ Does (configInside (endpoint .config)) (handled detailed (configurationBy (endpoint .config)) (bookOf endpoint) n (messageBy (now (t .entry))) (now (room .entry)) w) (now (room .exit)) (now (out .entry)) (now (out .exit)) at r ⌝ }
 {
     let mut octets = [0u8; MOST_MESSAGE];
     if read_octets(t, &mut octets) {
@@ -192,7 +192,7 @@ fn answer(
     out: &mut [u8],
     at: usize,
 ) -> Stepped
-    ensures { λ r. ⌜ Does (lentTo detailed (configurationBy (endpoint .config)) (bookOf endpoint) n whole (now (room .entry)) (record { room = asked; text = now (s .entry) })) (now (room .exit)) (now (out .entry)) (now (out .exit)) at r ⌝ }
+    ensures { λ r. ⌜ Does (configInside (endpoint .config)) (lentTo detailed (configurationBy (endpoint .config)) (bookOf endpoint) n whole (now (room .entry)) (record { room = asked; text = now (s .entry) })) (now (room .exit)) (now (out .entry)) (now (out .exit)) at r ⌝ }
 {
     if whole {
         let x = read_event(s);
@@ -227,7 +227,7 @@ impl Session {
         out: &mut [u8],
         at: usize,
     ) -> Stepped
-        ensures { λ r. ⌜ Does (ran detailed (configurationBy (self .endpoint .config)) (bookOf (self .endpoint)) (self .number) (record { text = now (line .entry); whole = whole }) (now (room .entry))) (now (room .exit)) (now (out .entry)) (now (out .exit)) at r ⌝ }
+        ensures { λ r. ⌜ Does (configInside (self .endpoint .config)) (ran detailed (configurationBy (self .endpoint .config)) (bookOf (self .endpoint)) (self .number) (record { text = now (line .entry); whole = whole }) (now (room .entry))) (now (room .exit)) (now (out .entry)) (now (out .exit)) at r ⌝ }
     {
         let lent = lend(detailed, line);
         let s = after(line, lent.at);

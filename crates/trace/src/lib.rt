@@ -4,6 +4,7 @@ mod events;
 
 ghost use mathlib.Core.Path.{_≡_};
 ghost use Rattle.octets.specs.Append.{Appends};
+ghost use Rattle.configuration.specs.Meaning.{configInside};
 ghost use Rattle.trace.specs.Trace.{start, stepped, ending};
 ghost use Rattle.trace.specs.Meaning.{traceBy, Does};
 use endpoint::Endpoint;
@@ -60,7 +61,7 @@ impl Session {
         out: &mut [u8],
         at: usize,
     ) -> Stepped
-        ensures { λ r. ⌜ Does (stepped detailed (traceBy self) (record { text = now (line .entry); whole = whole }) (now (room .entry))) (now (room .exit)) (now (out .entry)) (now (out .exit)) at r ⌝ }
+        ensures { λ r. ⌜ Does (configInside (self .endpoint .config)) (stepped detailed (traceBy self) (record { text = now (line .entry); whole = whole }) (now (room .entry))) (now (room .exit)) (now (out .entry)) (now (out .exit)) at r ⌝ }
     {
         let phase = self.phase;
         match phase {

@@ -1,7 +1,7 @@
 -- Laws of what a `G` line configures: a number that no octet holds is above all that can be used, so it is none either way.
 -- Assumes nothing.
 use Prim.Native.Nat.{ℕ, _≤_, _<_}
-use mathlib.Core.Path.{_≡_, refl, _∙_}
+use mathlib.Core.Path.{_≡_, refl, sym, _∙_}
 use mathlib.Core.List.{List, [], _∷_}
 use mathlib.Core.Bool.{Bool, true, false, cond, and-false}
 use mathlib.Core.Option.{Option, none}
@@ -24,20 +24,28 @@ use Rattle.address.specs.Ipv6.{readV6}
 use Rattle.configuration.specs.declared.Codec.{Codec as Place}
 use Rattle.configuration.specs.declared.Config.{Config}
 use Rattle.configuration.specs.Configuration.{Configuration, rightTimes, rightGeneral}
-use Rattle.configuration.specs.Meaning.{codecsBy, configurationBy}
+use Rattle.configuration.specs.Meaning.{codecsBy, configurationBy, allInside, configInside}
 use Rattle.trace_read.specs.declared.Configured.{Configured}
 use Rattle.trace_read.specs.declared.configure.Small.{Small}
 use Rattle.trace_read.specs.declared.configure.Small.the-variants as small
 use Rattle.trace_read.specs.declared.configure.Four.{Four}
 use Rattle.trace_read.specs.declared.configure.Four.the-variants as four
 use Rattle.trace_read.specs.Configuring.{hostIn, general, usable, timesOf, generalFields, generalOf}
-use Rattle.trace_read.specs.Meaning.{configuredBy}
+use Rattle.trace_read.specs.Meaning.{configuredBy, Configures, Fails}
 use Rattle.trace_read.specs.Steps.{smallOf, onSmall, fourOf}
 use Rattle.trace_read.proofs.FieldLaws.{fields-are}
 
-pub wrong-is : (c : Config) → configuredBy (record { right = false; config = c }) ≡ none
+pub wrong-is : (c : Config) → Fails (record { right = false; config = c })
 unfolding configuredBy
-wrong-is c = refl
+wrong-is c = record { is = refl; not = refl }
+
+-- none is what x is, and nothing is claimed of it
+pub failed : (b : Bool) (x : Option Configuration) (r : Configured) → Fails r → (configuredBy r ≡ none → configuredBy r ≡ x) → Configures b x r
+failed b x r f g = record { is = g (f .is); inside = λ h k. absurd (let z : false ≡ true = sym (f .not) ∙ k in let y : _≡_ {A = ℕ} 0 1 = cc in omega arith) }
+
+-- what was read as y is x
+pub same-configured : (b : Bool) (x y : Option Configuration) (r : Configured) → Configures b y r → (configuredBy r ≡ y → configuredBy r ≡ x) → Configures b x r
+same-configured b x y r f g = record { is = g (f .is); inside = f .inside }
 
 -- ---- a number that an octet holds
 module _ (t : List ℕ) (x : Number) (e : x ≡ readNumber t) where
@@ -81,10 +89,10 @@ pub ruleset hosts = (host-first, host-second)
 -- ---- a configuration with no codec yet
 pub general-is : (own : Address) (port least most t1 t2 : ℕ) (ks : List Place) (t : Bool)
     → t ≡ rightGeneral (configurationBy (record { own = own; port = port; least = least; most = most; t1 = t1; t2 = t2; count = 0; codecs = ks }))
-    → configuredBy (record { right = t; config = record { own = own; port = port; least = least; most = most; t1 = t1; t2 = t2; count = 0; codecs = ks } })
-    ≡ usable (general own port least most t1 t2)
-unfolding configuredBy usable general configurationBy codecsBy
-general-is own port least most t1 t2 ks t e = rw e
+    → Configures true (usable (general own port least most t1 t2))
+    (record { right = t; config = record { own = own; port = port; least = least; most = most; t1 = t1; t2 = t2; count = 0; codecs = ks } })
+unfolding configuredBy usable general configurationBy codecsBy configInside allInside
+general-is own port least most t1 t2 ks t e = record { is = rw e; inside = λ h k. refl }
 
 -- ---- the numbers behind the address and the port
 module _ (own : Address) (port a b c d : ℕ) where
@@ -161,46 +169,46 @@ module _ (own : Address) (port : ℕ) (ps : List (List ℕ)) where
       ∙ four-is (smallOf (partOf 3 ps)) (smallOf (partOf 4 ps)) (smallOf (partOf 5 ps)) (smallOf (partOf 6 ps)) all none
 
   module _ (r : Configured) (y : Four) (e : y ≡ fourOf ps) where
-    pub times-are : (a b c d : ℕ) → y ≡ four.Numbers a b c d → configuredBy r ≡ usable (general own port a b c d) → configuredBy r ≡ timesOf own port ps
+    pub times-are : (a b c d : ℕ) → y ≡ four.Numbers a b c d → Configures true (usable (general own port a b c d)) r → Configures true (timesOf own port ps) r
     unfolding onFour all
-    times-are a b c d q h = rw (times-four, ← e, q) h
+    times-are a b c d q f = same-configured true _ _ r f (λ h. rw (times-four, ← e, q) h)
 
-    pub times-none : y ≡ four.Wrong → configuredBy r ≡ none → configuredBy r ≡ timesOf own port ps
+    pub times-none : y ≡ four.Wrong → Fails r → Configures true (timesOf own port ps) r
     unfolding onFour all
-    times-none q h = rw (times-four, ← e, q) h
+    times-none q f = failed true _ r f (λ h. rw (times-four, ← e, q) h)
 
 pub ruleset times = (times-are, times-none)
 
 -- ---- the fields
 module _ (ps : List (List ℕ)) (r : Configured) (a : Parsed) (e : a ≡ hostIn (partOf 1 ps)) where
-  pub fields-host : a ≡ Unreadable → configuredBy r ≡ none → configuredBy r ≡ generalFields ps
+  pub fields-host : a ≡ Unreadable → Fails r → Configures true (generalFields ps) r
   unfolding generalFields onParsed
-  fields-host q h = rw (← e, q) h
+  fields-host q f = failed true _ r f (λ h. rw (← e, q) h)
 
   module _ (own : Address) (q : a ≡ Unicast own) (b : Number) (k : b ≡ readNumber (partOf 2 ps)) where
-    pub fields-port : b ≡ Bad → configuredBy r ≡ none → configuredBy r ≡ generalFields ps
+    pub fields-port : b ≡ Bad → Fails r → Configures true (generalFields ps) r
     unfolding generalFields onParsed onNumber
-    fields-port p h = rw (← e, q, ← k, p) h
+    fields-port p f = failed true _ r f (λ h. rw (← e, q, ← k, p) h)
 
-    pub fields-times : (port : ℕ) → b ≡ Value port → configuredBy r ≡ timesOf own port ps → configuredBy r ≡ generalFields ps
+    pub fields-times : (port : ℕ) → b ≡ Value port → Configures true (timesOf own port ps) r → Configures true (generalFields ps) r
     unfolding generalFields onParsed onNumber
-    fields-times port p h = rw (← e, q, ← k, p) h
+    fields-times port p f = same-configured true _ _ r f (λ h. rw (← e, q, ← k, p) h)
 
 pub ruleset addressing = (fields-host, fields-port, fields-times)
 
 -- ---- the line
 module _ (s : List ℕ) (r : Configured) where
-  pub general-few : (n : ℕ) → n ≡ separatorsOf 9 s → (n ≡ 6 → ⊥) → configuredBy r ≡ none → configuredBy r ≡ generalOf (splitOn 9 s)
+  pub general-few : (n : ℕ) → n ≡ separatorsOf 9 s → (n ≡ 6 → ⊥) → Fails r → Configures true (generalOf (splitOn 9 s)) r
   unfolding generalOf
-  general-few n c k h = let l = fields-are s n c in rw (ne-eqb (length (splitOn 9 s)) 7 (λ e. k (omega arith))) h
+  general-few n c k f = let l = fields-are s n c in failed true _ r f (λ h. rw (ne-eqb (length (splitOn 9 s)) 7 (λ e. k (omega arith))) h)
 
   module _ (p : List ℕ) (t : Bool) (e : p ≡ partOf 0 (splitOn 9 s)) (g : t ≡ same (71 ∷ []) p) where
-    pub general-other : t ≡ false → configuredBy r ≡ none → configuredBy r ≡ generalOf (splitOn 9 s)
+    pub general-other : t ≡ false → Fails r → Configures true (generalOf (splitOn 9 s)) r
     unfolding generalOf
-    general-other q h = rw (← e, ← g, q, and-false (eqb (length (splitOn 9 s)) 7)) h
+    general-other q f = failed true _ r f (λ h. rw (← e, ← g, q, and-false (eqb (length (splitOn 9 s)) 7)) h)
 
-    pub general-line : (n : ℕ) → n ≡ separatorsOf 9 s → n ≡ 6 → t ≡ true → configuredBy r ≡ generalFields (splitOn 9 s) → configuredBy r ≡ generalOf (splitOn 9 s)
+    pub general-line : (n : ℕ) → n ≡ separatorsOf 9 s → n ≡ 6 → t ≡ true → Configures true (generalFields (splitOn 9 s)) r → Configures true (generalOf (splitOn 9 s)) r
     unfolding generalOf
-    general-line n c k q h = let l = fields-are s n c in rw (← e, ← g, q, eq-eqb (length (splitOn 9 s)) 7 (omega arith)) h
+    general-line n c k q f = let l = fields-are s n c in same-configured true _ _ r f (λ h. rw (← e, ← g, q, eq-eqb (length (splitOn 9 s)) 7 (omega arith)) h)
 
 pub ruleset generals = (general-few, general-other, general-line)

@@ -2,11 +2,12 @@
 use Prim.Native.Nat.{ℕ, _<_}
 use mathlib.Core.Path.{_≡_}
 use mathlib.Core.List.{List, []}
-use mathlib.Core.Bool.{cond}
+use mathlib.Core.Bool.{Bool, true, false, cond}
 use mathlib.Core.Option.{Option, none, some}
 use lib.ListN.{length, drop}
-use Rattle.configuration.specs.Configuration.{Configuration}
-use Rattle.configuration.specs.Meaning.{configurationBy}
+use Rattle.configuration.specs.declared.Entry.{Entry}
+use Rattle.configuration.specs.Configuration.{Codec, Configuration}
+use Rattle.configuration.specs.Meaning.{configurationBy, entryBy, formatInside, configInside}
 use Rattle.endpoint.specs.Rule.{Event}
 use Rattle.endpoint.specs.Call as calls
 use Rattle.trace_read.specs.declared.Asked.{Asked}
@@ -31,6 +32,21 @@ pub record Asks (s : List ℕ) (r : Asked) : Type 0 where
 -- the configuration that was read
 unfoldable pub configuredBy : Configured → Option Configuration
 configuredBy r = cond (r .right) (some (configurationBy (r .config))) none
+
+-- r is the configuration x, or none; no count or length in it goes past its array, where none did before
+pub record Configures (before : Bool) (x : Option Configuration) (r : Configured) : Type 0 where
+  pub is : configuredBy r ≡ x
+  pub inside : before ≡ true → r .right ≡ true → configInside (r .config) ≡ true
+
+-- for the private functions: r is none
+pub record Fails (r : Configured) : Type 0 where
+  pub is : configuredBy r ≡ none
+  pub not : r .right ≡ false
+
+-- the codec k that was looked for, or none; its length lies inside its array
+pub record Finds (x : Option Codec) (r : Entry) : Type 0 where
+  pub is : entryBy r ≡ x
+  pub inside : r .known ≡ true → formatInside (r .codec .format) ≡ true
 
 -- what is lent, and the event's line in s
 unfoldable pub lentBy : List ℕ → places.Lent → Lent

@@ -1,11 +1,12 @@
 // The lines that configure the endpoint.
 ghost use mathlib.Core.Path.{_≡_};
+ghost use mathlib.Core.Bool.{true, _&&_};
 ghost use mathlib.Core.Option.{none};
 ghost use Rattle.octets.specs.Split.{partOf};
-ghost use Rattle.configuration.specs.Meaning.{codecBy, configurationBy, entryBy};
+ghost use Rattle.configuration.specs.Meaning.{codecBy, configurationBy, formatInside, configInside};
 ghost use Rattle.trace_read.specs.Words.{fieldsOf};
 ghost use Rattle.trace_read.specs.Configuring.{hostIn, general, usable, timesOf, generalFields, generalIn, codecOf, payloadOf, rightly, addedTo, isCodecLine, codecIn};
-ghost use Rattle.trace_read.specs.Meaning.{configuredBy};
+ghost use Rattle.trace_read.specs.Meaning.{Configures, Fails, Finds};
 ghost use Rattle.trace_read.specs.Steps.{smallOf, fourOf};
 ghost use Rattle.configuration.specs.Configuration.{named};
 use crate::Configured;
@@ -115,7 +116,7 @@ fn host(s: &[u8]) -> Parsed
 
 // What can't be used.
 fn wrong() -> Configured
-    ensures { λ r. ⌜ configuredBy r ≡ none ⌝ }
+    ensures { λ r. ⌜ Fails r ⌝ }
 {
     Configured {
         right: false,
@@ -125,7 +126,7 @@ fn wrong() -> Configured
 
 // A configuration with no codec yet.
 fn general_of(own: Address, port: u16, least: u8, most: u8, t1: u8, t2: u8) -> Configured
-    ensures { λ r. ⌜ configuredBy r ≡ usable (general own port least most t1 t2) ⌝ }
+    ensures { λ r. ⌜ Configures true (usable (general own port least most t1 t2)) r ⌝ }
 {
     let none = blank();
     let config = Config {
@@ -146,7 +147,7 @@ fn general_of(own: Address, port: u16, least: u8, most: u8, t1: u8, t2: u8) -> C
 
 // The configuration with this address and port, and the numbers behind them.
 fn timed(s: &[u8], own: Address, port: u16) -> Configured
-    ensures { λ r. ⌜ configuredBy r ≡ timesOf own port (fieldsOf (now (s .entry))) ⌝ }
+    ensures { λ r. ⌜ Configures true (timesOf own port (fieldsOf (now (s .entry)))) r ⌝ }
 {
     match four_numbers(s) {
         Four::Numbers(least, most, t1, t2) => general_of(own, port, least, most, t1, t2),
@@ -156,7 +157,7 @@ fn timed(s: &[u8], own: Address, port: u16) -> Configured
 
 // The configuration of a `G` line's fields.
 fn addressed(s: &[u8]) -> Configured
-    ensures { λ r. ⌜ configuredBy r ≡ generalFields (fieldsOf (now (s .entry))) ⌝ }
+    ensures { λ r. ⌜ Configures true (generalFields (fieldsOf (now (s .entry)))) r ⌝ }
 {
     let a = host(s);
     let Parsed::Unicast(own) = a else {
@@ -171,7 +172,7 @@ fn addressed(s: &[u8]) -> Configured
 
 // The configuration of the `G` line s, which stands without its LF.
 pub fn read_general(s: &[u8]) -> Configured
-    ensures { λ r. ⌜ configuredBy r ≡ generalIn (now (s .entry)) ⌝ }
+    ensures { λ r. ⌜ Configures true (generalIn (now (s .entry))) r ⌝ }
 {
     if separators(s, 9) != 6 {
         return wrong();
@@ -191,7 +192,7 @@ pub fn is_codec_line(s: &[u8]) -> bool
 
 // No codec.
 fn no_codec() -> Entry
-    ensures { λ r. ⌜ entryBy r ≡ none ⌝ }
+    ensures { λ r. ⌜ Finds none r ⌝ }
 {
     Entry {
         known: false,
@@ -201,7 +202,7 @@ fn no_codec() -> Entry
 
 // The codec that a payload names.
 fn read_payload(t: &[u8]) -> Entry
-    ensures { λ r. ⌜ entryBy r ≡ payloadOf (now (t .entry)) ⌝ }
+    ensures { λ r. ⌜ Finds (payloadOf (now (t .entry))) r ⌝ }
 {
     let x = read_number(t);
     let Number::Value(n) = x else {
@@ -222,7 +223,7 @@ fn read_payload(t: &[u8]) -> Entry
 
 // The codec that an encoding name names.
 fn read_name(t: &[u8]) -> Entry
-    ensures { λ r. ⌜ entryBy r ≡ rightly (named (now (t .entry))) ⌝ }
+    ensures { λ r. ⌜ Finds (rightly (named (now (t .entry)))) r ⌝ }
 {
     if MOST_NAME < t.len() {
         return no_codec();
@@ -241,7 +242,7 @@ fn read_name(t: &[u8]) -> Entry
 
 // The codec that a field names.
 fn read_codec(t: &[u8]) -> Entry
-    ensures { λ r. ⌜ entryBy r ≡ codecOf (now (t .entry)) ⌝ }
+    ensures { λ r. ⌜ Finds (codecOf (now (t .entry))) r ⌝ }
 {
     if digit_run(t) {
         return read_payload(t);
@@ -251,14 +252,14 @@ fn read_codec(t: &[u8]) -> Entry
 
 // The codec in field 1.
 fn codec_field(s: &[u8]) -> Entry
-    ensures { λ r. ⌜ entryBy r ≡ codecOf (partOf 1 (fieldsOf (now (s .entry)))) ⌝ }
+    ensures { λ r. ⌜ Finds (codecOf (partOf 1 (fieldsOf (now (s .entry))))) r ⌝ }
 {
     read_codec(part(s, 9, 1))
 }
 
 // The configuration with one codec more.
 fn add_codec(c: Config, codec: Codec) -> Configured
-    ensures { λ r. ⌜ configuredBy r ≡ addedTo (configurationBy c) (codecBy codec) ⌝ }
+    ensures { λ r. ⌜ Configures (configInside c && formatInside (codec .format)) (addedTo (configurationBy c) (codecBy codec)) r ⌝ }
 {
     let n = c.count;
     if MOST_CODECS <= n {
@@ -275,7 +276,7 @@ fn add_codec(c: Config, codec: Codec) -> Configured
 
 // The configuration c with the codec of the line s more, which stands without its LF in the run of `K` lines.
 pub fn read_codec_line(c: Config, s: &[u8]) -> Configured
-    ensures { λ r. ⌜ configuredBy r ≡ codecIn (configurationBy c) (now (s .entry)) ⌝ }
+    ensures { λ r. ⌜ Configures (configInside c) (codecIn (configurationBy c) (now (s .entry))) r ⌝ }
 {
     if separators(s, 9) != 1 {
         return wrong();
