@@ -19,6 +19,8 @@ use Rattle.configuration.specs.declared.Entry.{Entry}
 use Rattle.configuration.specs.Configuration.{Codec, Configuration, entryIn}
 use Rattle.configuration.specs.Meaning.{codecBy, codecsBy, configurationBy, entryBy, configInside}
 use Rattle.endpoint.specs.declared.Endpoint.{Endpoint}
+use Rattle.endpoint.specs.declared.Opening.{Opening}
+use Rattle.endpoint.specs.Call.{Opens}
 use Rattle.endpoint.specs.Step.{bookOf}
 use Rattle.trace_read.specs.declared.Configured.{Configured}
 use Rattle.trace_read.specs.Configuring.{isCodecLine, codecIn, generalIn}
@@ -28,7 +30,12 @@ use Rattle.trace.specs.declared.Phase.the-variants as phase
 use Rattle.trace.specs.declared.Session.{Session}
 use Rattle.trace.specs.declared.Stepped.{Stepped}
 use Rattle.trace.specs.Trace.{Line, configuring, ran, silent, refusing, going, behind, begun, wholly, stepped, ending}
-use Rattle.trace.specs.Meaning.{traceIn, traceBy, Does, Goes, Keeps, Unused}
+use Rattle.trace.specs.Meaning.{traceIn, traceBy, Begins, Does, Goes, Keeps, Unused}
+
+pub begins-is : (g : Configured) (z : Option Configuration) (o : Opening) → Configures true z g → Opens (g .config) o
+    → Begins (record { phase = phase.Start; number = 0; endpoint = o .endpoint })
+unfolding traceIn
+begins-is g z o c h = record { is = refl; inside = rw (h .config) (c .inside refl) }
 
 pub kept-is : (c : Config) (e : Endpoint) (at : ℕ) → Unused c e → Keeps (configInside c) (configurationBy c) at (record { session = record { phase = phase.Configuring; number = 0; endpoint = e }; at = at })
 unfolding going silent traceIn
@@ -50,7 +57,7 @@ module _ (b : Bool) (out : List ℕ) (at : ℕ) (r : Stepped) (whole : Bool) (z 
       let d = x out room in
       let n : going room (some (configurationBy (g .config))) ≡ going room (wholly whole z) = rw (h, ← y) in
       let w : Does (configInside (g .config)) (going room (wholly whole z)) room out out at r = rw n at d in
-      record { session = w .session; printed = w .printed; lent = w .lent; inside = λ k. w .inside (e .inside (j k) p) }
+      record { session = w .session; printed = w .printed; lent = w .lent; inside = λ k. w .inside (e .inside (j k)) }
 
   -- a `G` line, whatever was before
   pub whole-kept : (g : Configured) → Configures true z g → whole ≡ true → g .right ≡ true → Keeps (configInside (g .config)) (configurationBy (g .config)) at r → Goes b (wholly whole z) out out at r

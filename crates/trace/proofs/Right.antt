@@ -24,7 +24,12 @@ use Rattle.trace_read.specs.Configuring.{hostIn, general, usable, timesOf, gene
 use Rattle.trace_read.specs.Words.{fieldsOf, generalWord}
 use Rattle.trace_read.specs.Events.{led}
 use Rattle.trace.specs.Trace.{Trace, start, configuring, running, stopped, Line, judged, handled, lentTo, ran, silent, refusing, going, behind, begun, wholly, stepped}
-use Rattle.trace.specs.Right.{Begun, Right}
+use Rattle.trace.specs.declared.Phase.the-variants.{Running}
+use Rattle.trace.specs.declared.Session.{Session}
+use Rattle.trace.specs.declared.Stepped.{Stepped}
+use Rattle.configuration.specs.Meaning.{configurationBy, configInside, rightConfig}
+use Rattle.trace.specs.Meaning.{traceIn, traceBy, Begins, Does}
+use Rattle.trace.specs.Right.{Begun, Right, Sound}
 
 -- ---- what holds of something, if there is something
 record Each {A : Type 0} (P : A → Type 0) (x : Option A) : Type 0 where
@@ -145,3 +150,20 @@ trace-right d (configuring c) l room h =
     (λ p. rw p (begun-right d c l room h))
 trace-right d (running c k n) l room h = h
 trace-right d stopped l room h = tt
+
+-- ---- of the code: a session is sound before its first line and after each, and once events come its endpoint has a configuration
+-- that is not refused
+pub begun-sound : (s : Session) → Begins s → Sound s
+begun-sound s h = record { right = rw (h .is) tt; inside = h .inside }
+
+pub step-sound : (s : Session) (d : Bool) (l : Line) (room room′ out out′ : List ℕ) (at : ℕ) (r : Stepped) → Sound s
+    → Does (configInside (s .endpoint .config)) (stepped d (traceBy s) l room) room′ out out′ at r → Sound (r .session)
+step-sound s d l room room′ out out′ at r h x =
+    record { right = rw (x .session) (trace-right d (traceBy s) l room (h .right)); inside = x .inside (h .inside) }
+
+pub running-right : (s : Session) → Sound s → s .phase ≡ Running → rightConfig (s .endpoint .config) ≡ true
+unfolding rightConfig traceIn
+running-right s h e =
+    let r = h .right in
+    let q : rightConfiguration (configurationBy (s .endpoint .config)) ≡ true = rw e at r in
+    rw (h .inside, q)

@@ -34,6 +34,11 @@ traceIn Stopped n e = stopped
 abbrev pub traceBy : Session → Trace
 traceBy s = traceIn (s .phase) (s .number) (s .endpoint)
 
+-- a session before its first line
+pub record Begins (r : Session) : Type 0 where
+  pub is : traceBy r ≡ start
+  pub inside : configInside (r .endpoint .config) ≡ true
+
 -- The step x: r has the trace that it leaves, what it prints is appended to out at `at`, and the lent buffer holds what it leaves. No
 -- count or length of the configuration goes past its array, where b says that none did before.
 pub record Does (b : Bool) (x : Step) (room′ out out′ : List ℕ) (at : ℕ) (r : Stepped) : Type 0 where

@@ -4,6 +4,9 @@ use mathlib.Core.Path.{_≡_}
 use mathlib.Core.Bool.{true}
 use lib.ListN.{length}
 use Rattle.configuration.specs.Configuration.{Configuration, mostCodecs, allRight, rightGeneral, rightConfiguration}
+use Rattle.configuration.specs.Meaning.{configInside}
+use Rattle.trace.specs.declared.Session.{Session}
+use Rattle.trace.specs.Meaning.{traceBy}
 use Rattle.trace.specs.Trace.{Trace, start, configuring, running, stopped}
 
 -- the configuration can be used, but that it may have no codec yet
@@ -18,3 +21,8 @@ Right start = Unit {0}
 Right (configuring c) = Begun c
 Right (running c k n) = rightConfiguration c ≡ true
 Right stopped = Unit {0}
+
+-- the same of the code's session, in whose configuration no count or length goes past its array
+pub record Sound (s : Session) : Type 0 where
+  pub right : Right (traceBy s)
+  pub inside : configInside (s .endpoint .config) ≡ true

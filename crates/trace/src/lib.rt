@@ -2,11 +2,10 @@
 mod configuring;
 mod events;
 
-ghost use mathlib.Core.Path.{_≡_};
 ghost use Rattle.octets.specs.Append.{Appends};
 ghost use Rattle.configuration.specs.Meaning.{configInside};
-ghost use Rattle.trace.specs.Trace.{start, stepped, ending};
-ghost use Rattle.trace.specs.Meaning.{traceBy, Does};
+ghost use Rattle.trace.specs.Trace.{stepped, ending};
+ghost use Rattle.trace.specs.Meaning.{traceBy, Begins, Does};
 use endpoint::Endpoint;
 use trace_read::configure::read_general;
 use trace_write::lines::push_refused_line;
@@ -38,7 +37,7 @@ pub struct Stepped {
 impl Session {
     // No line has come.
     pub fn new() -> Session
-        ensures { λ r. ⌜ traceBy r ≡ start ⌝ }
+        ensures { λ r. ⌜ Begins r ⌝ }
     {
         let read = read_general(b"");
         let opening = Endpoint::new(read.config);

@@ -4,7 +4,7 @@ use Prim.Native.Nat.{ℕ, _+_, _≤_, _<_}
 use mathlib.Core.Path.{_≡_, refl, sym, _∙_}
 use mathlib.Core.List.{List, [], _∷_, _++_, map, map-append}
 use mathlib.Core.Bool.{Bool, true, false, _&&_, cond, and-false, and-eq-true-iff}
-use mathlib.Core.Option.{Option, none, some, Option·elim}
+use mathlib.Core.Option.{none, some, Option·elim}
 use lib.ListN.{length, take, set, replicate, length-map, length-take, length-replicate}
 use lib.Seq.{take-append-seam, take-suc-set}
 use lib.Dec.{leb, ltb}
@@ -132,10 +132,10 @@ module _ (c : Config) {X : Type 0} (g : Place → X) (w : length (map g (c .code
       let l : c .count < length (c .codecs) = omega (arith, entries) in
       record {
         is = rw (lt-ltb (length (map codecBy (take (c .count) (c .codecs)))) 8 (omega (arith, length-map (take (c .count) (c .codecs)) codecBy, length-take (c .count) (c .codecs))), add-one, take-suc-set (c .codecs) (c .count) k l, map-append);
-        inside = λ b q.
-        let (x, f) = and-eq-true-iff (leb (c .count) mostCodecs && allInside (take (c .count) (c .codecs))) (formatInside (k .format)) .0 b in
-        let (_, y) = and-eq-true-iff (leb (c .count) mostCodecs) (allInside (take (c .count) (c .codecs))) .0 x in
-        rw (le-leb (c .count + 1) mostCodecs (omega arith), add-one, take-suc-set (c .codecs) (c .count) k l) (inside-snoc (take (c .count) (c .codecs)) k y f);
+        inside = λ b.
+            let (x, f) = and-eq-true-iff (leb (c .count) mostCodecs && allInside (take (c .count) (c .codecs))) (formatInside (k .format)) .0 b in
+            let (_, y) = and-eq-true-iff (leb (c .count) mostCodecs) (allInside (take (c .count) (c .codecs))) .0 x in
+            rw (le-leb (c .count + 1) mostCodecs (omega arith), add-one, take-suc-set (c .codecs) (c .count) k l) (inside-snoc (take (c .count) (c .codecs)) k y f);
       }
 
 pub ruleset adds = (added-full, added-is)
@@ -157,7 +157,7 @@ module _ (c : Config) (s : List ℕ) (r : Configured) (n : ℕ) (q : n ≡ separ
         let l = fields-are s n q in
         record {
           is = rw (eq-eqb (length (splitOn 9 s)) 2 (omega arith), ← known-is true j) (f .is);
-          inside = λ b k. f .inside (rw (b, e .inside j)) k;
+          inside = λ b. f .inside (rw (b, e .inside j));
         }
 
     pub line-none : n ≡ 1 → x .known ≡ false → Fails r → Configures (configInside c) (codecFor (configurationBy c) (splitOn 9 s)) r

@@ -1,7 +1,7 @@
 -- Laws of what a `G` line configures: a number that no octet holds is above all that can be used, so it is none either way.
 -- Assumes nothing.
 use Prim.Native.Nat.{ℕ, _≤_, _<_}
-use mathlib.Core.Path.{_≡_, refl, sym, _∙_}
+use mathlib.Core.Path.{_≡_, refl, _∙_}
 use mathlib.Core.List.{List, [], _∷_}
 use mathlib.Core.Bool.{Bool, true, false, cond, and-false}
 use mathlib.Core.Option.{Option, none}
@@ -35,13 +35,19 @@ use Rattle.trace_read.specs.Meaning.{configuredBy, Configures, Fails}
 use Rattle.trace_read.specs.Steps.{smallOf, onSmall, fourOf}
 use Rattle.trace_read.proofs.FieldLaws.{fields-are}
 
-pub wrong-is : (c : Config) → Fails (record { right = false; config = c })
+pub wrong-is : (c : Config) → configInside c ≡ true → Fails (record { right = false; config = c })
 unfolding configuredBy
-wrong-is c = record { is = refl; not = refl }
+wrong-is c i = record { is = refl; inside = i }
 
--- none is what x is, and nothing is claimed of it
+-- nothing counts in a configuration of no codecs
+pub none-inside : (own : Address) (port least most t1 t2 : ℕ) (ks : List Place)
+    → configInside (record { own = own; port = port; least = least; most = most; t1 = t1; t2 = t2; count = 0; codecs = ks }) ≡ true
+unfolding configInside allInside
+none-inside own port least most t1 t2 ks = refl
+
+-- none is what x is
 pub failed : (b : Bool) (x : Option Configuration) (r : Configured) → Fails r → (configuredBy r ≡ none → configuredBy r ≡ x) → Configures b x r
-failed b x r f g = record { is = g (f .is); inside = λ h k. absurd (let z : false ≡ true = sym (f .not) ∙ k in let y : _≡_ {A = ℕ} 0 1 = cc in omega arith) }
+failed b x r f g = record { is = g (f .is); inside = λ h. f .inside }
 
 -- what was read as y is x
 pub same-configured : (b : Bool) (x y : Option Configuration) (r : Configured) → Configures b y r → (configuredBy r ≡ y → configuredBy r ≡ x) → Configures b x r
@@ -92,7 +98,7 @@ pub general-is : (own : Address) (port least most t1 t2 : ℕ) (ks : List Place)
     → Configures true (usable (general own port least most t1 t2))
     (record { right = t; config = record { own = own; port = port; least = least; most = most; t1 = t1; t2 = t2; count = 0; codecs = ks } })
 unfolding configuredBy usable general configurationBy codecsBy configInside allInside
-general-is own port least most t1 t2 ks t e = record { is = rw e; inside = λ h k. refl }
+general-is own port least most t1 t2 ks t e = record { is = rw e; inside = λ h. refl }
 
 -- ---- the numbers behind the address and the port
 module _ (own : Address) (port a b c d : ℕ) where

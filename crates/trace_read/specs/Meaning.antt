@@ -2,7 +2,7 @@
 use Prim.Native.Nat.{ℕ, _<_}
 use mathlib.Core.Path.{_≡_}
 use mathlib.Core.List.{List, []}
-use mathlib.Core.Bool.{Bool, true, false, cond}
+use mathlib.Core.Bool.{Bool, true, cond}
 use mathlib.Core.Option.{Option, none, some}
 use lib.ListN.{length, drop}
 use Rattle.configuration.specs.declared.Entry.{Entry}
@@ -36,14 +36,14 @@ configuredBy r = cond (r .right) (some (configurationBy (r .config))) none
 -- r is the configuration x, or none; no count or length in it goes past its array, where none did before
 pub record Configures (before : Bool) (x : Option Configuration) (r : Configured) : Type 0 where
   pub is : configuredBy r ≡ x
-  pub inside : before ≡ true → r .right ≡ true → configInside (r .config) ≡ true
+  pub inside : before ≡ true → configInside (r .config) ≡ true
 
--- for the private functions: r is none
+-- for the private functions: r is none, and no count or length in it goes past its array either
 pub record Fails (r : Configured) : Type 0 where
   pub is : configuredBy r ≡ none
-  pub not : r .right ≡ false
+  pub inside : configInside (r .config) ≡ true
 
--- the codec k that was looked for, or none; its length lies inside its array
+-- for the private functions: r is the codec x, or none; the length of one that is known lies inside its array
 pub record Finds (x : Option Codec) (r : Entry) : Type 0 where
   pub is : entryBy r ≡ x
   pub inside : r .known ≡ true → formatInside (r .codec .format) ≡ true

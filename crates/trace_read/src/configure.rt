@@ -45,7 +45,9 @@ enum Four {
 }
 
 // A configuration that says nothing.
-fn unread() -> Config {
+fn unread() -> Config
+    ensures { λ r. ⌜ configInside r ≡ true ⌝ }
+{
     let none = blank();
     Config {
         own: Address::V4(0),

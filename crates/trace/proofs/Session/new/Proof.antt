@@ -1,7 +1,7 @@
--- `Session::new` meets its contract. Its phase is the first.
+-- `Session::new` meets its contract. Its phase is the first, and its configuration has no codec.
 -- Assumes nothing.
 use borrow.Author.Needs.{needs}
-use Rattle.trace.specs.Meaning.{traceIn}
+use Rattle.trace.proofs.ConfiguringLaws.{begins-is}
 use Rattle.trace.proofs.Session.new.Statement.{statement}
 use Rattle.trace.proofs.Session.new.Tie as tie
 
@@ -15,8 +15,7 @@ new-requires : tie.Need-new-requires
 new-requires c κs = search needs
 
 returns : tie.Need-returns
-unfolding traceIn
-returns c = search needs
+returns c = search (begins-is, needs)
 
 pub new-spec : {M : Type 1} → statement M
 new-spec =
