@@ -9,7 +9,7 @@
 # bearertrace and tracedetail are given the same traces, and must agree. CHECKED lines more (4,000 unless given, 0 for
 # none) are run under valgrind. SEED (1 unless given) chooses the lines. The programs are the built ones in target/bin
 # unless given. Prints how many of each kind of answer were met; in a run of 500,000 lines or more each has to be. Ends
-# with status 1 where something is wrong, and keeps the input in a file. No part of the gate.
+# with status 1 where something is wrong, and keeps the input in a file. No part of the gate. Needs Python 3.
 set -u
 lines=${1:-1000000}
 seed=${2:-1}
