@@ -1,90 +1,196 @@
 -- Laws of a line by its letter: the letter that the code found picks the line's rule.
 -- Assumes nothing.
-use Prim.Native.Nat.{ℕ, _≤_, _<_}
-use mathlib.Core.Path.{_≡_, refl, sym, ap, _∙_}
+use Prim.Native.Nat.{ℕ, min}
+use mathlib.Core.Path.{_≡_, refl, sym, _∙_}
 use mathlib.Core.List.{List, [], _∷_}
-use mathlib.Core.Bool.{Bool, true, false}
-use mathlib.Core.Option.{none}
-use lib.ListN.{length, getD, drop}
+use mathlib.Core.Bool.{Bool, true, false, cond, and-eq-true-iff}
+use mathlib.Core.Option.{none, some, Option·map}
+use lib.Dec.{eqb}
 use native.Mathlib.Omega.{arith}
 use borrow.Author.Tests.{ne-eqb}
+use Rattle.octets.specs.declared.Span.{Span}
+use Rattle.octets.specs.Spans.{textOf}
 use Rattle.octets.specs.Split.{has}
-use Rattle.octets.specs.Words.{same}
-use Rattle.description.specs.declared.Draft.{Draft as DraftPlaces}
-use Rattle.description.specs.declared.Step.{Step}
-use Rattle.description.specs.declared.Step.the-variants.{Go, Wrong}
-use Rattle.description.specs.Draft.{Draft, needed, versionLine, isOrigin, originLine, sessionLine, connectionLine, isTime, timeLine, mediaLine, attributeLine, skippedLetters, fieldOf, lineOf}
-use Rattle.description.specs.Meaning.{draftBy, stepBy}
+use Rattle.octets.specs.Words.{begins, same}
+use Rattle.octets.proofs.CaseLaws.{by-eq, by-bool}
+use Rattle.address.specs.declared.Address.{Address}
+use Rattle.media.specs.declared.Stream.{Stream as Places}
+use Rattle.media.specs.declared.Taken.{Taken}
+use Rattle.media.specs.declared.Taken.the-variants.{Stream as TakenStream, Wrong as TakenWrong}
+use Rattle.media.specs.Stream.{Stream, rtpmapWord, fmtpWord, ptimeWord}
+use Rattle.media.specs.Attributes.{isAttribute, attributeOf}
+use Rattle.media.specs.Meaning.{streamBy, takenBy}
+use Rattle.description.specs.declared.Preamble.{Preamble}
+use Rattle.description.specs.declared.Extended.{Extended}
+use Rattle.description.specs.declared.Extended.the-variants.{Go, Wrong}
+use Rattle.description.specs.Draft.{Draft, needed, versionLine, isOrigin, originLine, sessionLine, connectionLine, isTime, timeLine, mediaLine, ipbcpWord, ipbcpLine, withStream, attributeLine, skippedLetters, fieldOf}
+use Rattle.description.specs.Meaning.{preambleBy, extendedBy, between, isIpbcp, isSkipped, preambleLine, later, laterBy, LaterLine}
 
--- The value of the line is v, which the code has as t; r is what the code made of it.
-module _ (m v : List ℕ) (d : DraftPlaces) (letter : ℕ) where
-  module _ (t : List ℕ) (at : t ≡ v) (r : Step) where
-    pub field-v : letter ≡ 118 → (w : Bool) → w ≡ same (48 ∷ []) t → ((z : List ℕ) → stepBy z r ≡ needed 0 w (draftBy z d)) → stepBy m r ≡ fieldOf (draftBy m d) letter v
-    unfolding fieldOf versionLine
-    field-v e w p q = rw (e, ← at, ← p) (q m)
+-- ---- lines that say nothing
+module _ (v : List ℕ) where
+  module _ (u : Bool) (one : u ≡ isAttribute v) where
+    pub skipped-attribute : (letter : ℕ) → letter ≡ 97 → (t : Bool) → t ≡ begins ipbcpWord v → t ≡ false → u ≡ true → false ≡ isSkipped letter v
+    unfolding isSkipped
+    skipped-attribute letter e t p n h = rw (e, ← p, n, ← one, h)
 
-    pub field-o : letter ≡ 111 → (w : Bool) → w ≡ isOrigin t → ((z : List ℕ) → stepBy z r ≡ needed 1 w (draftBy z d)) → stepBy m r ≡ fieldOf (draftBy m d) letter v
-    unfolding fieldOf originLine
-    field-o e w p q = rw (e, ← at, ← p) (q m)
+    pub skipped-other : (letter : ℕ) → letter ≡ 97 → (t : Bool) → t ≡ begins ipbcpWord v → t ≡ false → u ≡ false → true ≡ isSkipped letter v
+    unfolding isSkipped
+    skipped-other letter e t p n h = rw (e, ← p, n, ← one, h)
 
-    pub field-c : letter ≡ 99 → ((z : List ℕ) → stepBy z r ≡ connectionLine (draftBy z d) t) → stepBy m r ≡ fieldOf (draftBy m d) letter v
-    unfolding fieldOf
-    field-c e q = rw (e, ← at) (q m)
+  pub skipped-ipbcp : (letter : ℕ) → letter ≡ 97 → (t : Bool) → t ≡ begins ipbcpWord v → t ≡ true → false ≡ isSkipped letter v
+  unfolding isSkipped
+  skipped-ipbcp letter e t p h = rw (e, ← p, h)
 
-    pub field-t : letter ≡ 116 → (w : Bool) → w ≡ isTime t → ((z : List ℕ) → stepBy z r ≡ needed 4 w (draftBy z d)) → stepBy m r ≡ fieldOf (draftBy m d) letter v
-    unfolding fieldOf timeLine
-    field-t e w p q = rw (e, ← at, ← p) (q m)
+  pub skipped-skipped : (letter : ℕ) → (letter ≡ 97 → ⊥) → (w : Bool) → w ≡ has letter skippedLetters → w ≡ isSkipped letter v
+  unfolding isSkipped
+  skipped-skipped letter e w p = rw (ne-eqb letter 97 e) p
 
-  module _ (r : Step) where
-    pub field-s : letter ≡ 115 → ((z : List ℕ) → stepBy z r ≡ needed 2 true (draftBy z d)) → stepBy m r ≡ fieldOf (draftBy m d) letter v
-    unfolding fieldOf sessionLine
-    field-s e q = rw e (q m)
+pub ruleset skipping = (skipped-attribute, skipped-other, skipped-ipbcp, skipped-skipped)
 
-    pub field-m : letter ≡ 109 → stepBy m r ≡ mediaLine (draftBy m d) v → stepBy m r ≡ fieldOf (draftBy m d) letter v
-    unfolding fieldOf
-    field-m e q = rw e q
+-- an attribute, or a letter that is skipped
+skipped-else : (d : Draft) (letter : ℕ) (v : List ℕ) → isIpbcp letter v ≡ false → eqb (d .had) 7 ≡ false
+    → cond (eqb letter 97) (attributeLine d v) (cond (has letter skippedLetters) (some d) none) ≡ cond (isSkipped letter v) (some d) none
+unfolding isSkipped isIpbcp attributeLine
+skipped-else d letter v isnt h =
+    by-eq letter 97 _
+    (λ e. let n : begins ipbcpWord v ≡ false = rw e at isnt in
+    by-bool (isAttribute v) _ (λ u. rw (e, n, u, h)) (λ u. rw (e, n, u)))
+    (λ e. rw (ne-eqb letter 97 e))
 
-    pub field-a : letter ≡ 97 → stepBy m r ≡ attributeLine (draftBy m d) v → stepBy m r ≡ fieldOf (draftBy m d) letter v
-    unfolding fieldOf
-    field-a e q = rw e q
+-- an ipbcp line is not skipped
+skipped-not : (letter : ℕ) (v : List ℕ) → isIpbcp letter v ≡ true → isSkipped letter v ≡ false
+unfolding isIpbcp isSkipped
+skipped-not letter v e =
+    let f = and-eq-true-iff (eqb letter 97) (begins ipbcpWord v) .0 e in
+    rw (f .0, f .1)
 
-  module _ (a : letter ≡ 118 → ⊥) (b : letter ≡ 111 → ⊥) (c : letter ≡ 115 → ⊥) (f : letter ≡ 99 → ⊥) (g : letter ≡ 116 → ⊥) (h : letter ≡ 109 → ⊥) (k : letter ≡ 97 → ⊥)
-      (w : Bool) (is : w ≡ has letter skippedLetters) where
-    pub field-skipped : w ≡ true → stepBy m (Go d) ≡ fieldOf (draftBy m d) letter v
-    unfolding fieldOf stepBy
-    field-skipped e =
-        let y : has letter skippedLetters ≡ true = sym is ∙ e in
-        rw (ne-eqb letter 118 a, ne-eqb letter 111 b, ne-eqb letter 115 c, ne-eqb letter 99 f, ne-eqb letter 116 g, ne-eqb letter 109 h, ne-eqb letter 97 k, y)
+skipped-six : (a : Address) (letter : ℕ) (v : List ℕ)
+    → cond (eqb letter 97) (attributeLine (between a) v) (cond (has letter skippedLetters) (some (between a)) none) ≡ cond (isSkipped letter v) (some (between a)) none
+unfolding isIpbcp isSkipped attributeLine ipbcpLine needed between
+skipped-six a letter v =
+    by-bool (isIpbcp letter v) _
+    (λ e. by-eq letter 97 _
+    (λ f. let n : begins ipbcpWord v ≡ true = rw f at e in rw (f, n))
+    (λ f. rw (ne-eqb letter 97 f)))
+    (λ e. skipped-else (between a) letter v e refl)
 
-    pub field-other : w ≡ false → stepBy m Wrong ≡ fieldOf (draftBy m d) letter v
-    unfolding fieldOf stepBy
-    field-other e =
-        let y : has letter skippedLetters ≡ false = sym is ∙ e in
-        rw (ne-eqb letter 118 a, ne-eqb letter 111 b, ne-eqb letter 115 c, ne-eqb letter 99 f, ne-eqb letter 116 g, ne-eqb letter 109 h, ne-eqb letter 97 k, y)
+-- ---- before the ipbcp line: r is what the code made of the line with the value v
+module _ (v : List ℕ) (o : Preamble) (letter : ℕ) where
+  module _ (r : Extended) where
+    pub field-v : letter ≡ 118 → (w : Bool) → w ≡ same (48 ∷ []) v → extendedBy r ≡ needed 0 w (preambleBy o) → extendedBy r ≡ preambleLine (preambleBy o) letter v
+    unfolding preambleLine isIpbcp fieldOf versionLine
+    field-v e w p q = rw (e, ← p) q
 
-pub ruleset fields = (field-v, field-o, field-s, field-c, field-t, field-m, field-a, field-skipped, field-other)
+    pub field-o : letter ≡ 111 → (w : Bool) → w ≡ isOrigin v → extendedBy r ≡ needed 1 w (preambleBy o) → extendedBy r ≡ preambleLine (preambleBy o) letter v
+    unfolding preambleLine isIpbcp fieldOf originLine
+    field-o e w p q = rw (e, ← p) q
 
--- ---- the letter at the front of the line s, which the code has as t
-line-front : (s v : List ℕ) (d : Draft) → 2 ≤ length s → v ≡ drop 2 s → fieldOf d (getD s 0 0) v ≡ lineOf d s
-unfolding lineOf
-line-front [] v d h e = absurd (omega arith)
-line-front (a ∷ []) v d h e = absurd (omega arith)
-line-front (a ∷ b ∷ s) v d h e = rw e
+    pub field-s : letter ≡ 115 → extendedBy r ≡ needed 2 true (preambleBy o) → extendedBy r ≡ preambleLine (preambleBy o) letter v
+    unfolding preambleLine isIpbcp fieldOf sessionLine
+    field-s e q = rw e q
 
-line-none : (s : List ℕ) (d : Draft) → length s < 2 → none ≡ lineOf d s
-unfolding lineOf
-line-none [] d h = refl
-line-none (a ∷ []) d h = refl
-line-none (a ∷ b ∷ s) d h = absurd (omega arith)
+    pub field-c : letter ≡ 99 → extendedBy r ≡ connectionLine (preambleBy o) v → extendedBy r ≡ preambleLine (preambleBy o) letter v
+    unfolding preambleLine isIpbcp fieldOf
+    field-c e q = rw e q
 
-module _ (m s t : List ℕ) (at : t ≡ s) (d : DraftPlaces) where
-  pub line-short : length t < 2 → stepBy m Wrong ≡ lineOf (draftBy m d) s
-  unfolding stepBy
-  line-short h = line-none s (draftBy m d) (omega (arith, ap (λ (x : List ℕ). length x) at))
+    pub field-t : letter ≡ 116 → (w : Bool) → w ≡ isTime v → extendedBy r ≡ needed 4 w (preambleBy o) → extendedBy r ≡ preambleLine (preambleBy o) letter v
+    unfolding preambleLine isIpbcp fieldOf timeLine
+    field-t e w p q = rw (e, ← p) q
 
-  pub line-is : 2 ≤ length t → (v : List ℕ) → v ≡ drop 2 s → (r : Step) → stepBy m r ≡ fieldOf (draftBy m d) (getD t 0 0) v → stepBy m r ≡ lineOf (draftBy m d) s
-  line-is h v e r q =
-      let z : getD t 0 0 ≡ getD s 0 0 = rw at in
-      q ∙ rw z (line-front s v (draftBy m d) (omega (arith, ap (λ (x : List ℕ). length x) at)) e)
+  module _ (a : letter ≡ 118 → ⊥) (b : letter ≡ 111 → ⊥) (c : letter ≡ 115 → ⊥) (f : letter ≡ 99 → ⊥) (g : letter ≡ 116 → ⊥) (w : Bool) (is : w ≡ isSkipped letter v) where
+    -- the media line, an attribute, or a letter that is skipped
+    field-rest : isIpbcp letter v ≡ false → fieldOf (preambleBy o) letter v ≡ cond (isSkipped letter v) (some (preambleBy o)) none
+    unfolding fieldOf preambleBy mediaLine isSkipped has
+    field-rest e =
+        by-eq letter 109 _
+        (λ h. rw (h, ne-eqb (min (o .had) 5) 6 (λ k. omega arith)))
+        (λ h. rw (ne-eqb letter 118 a, ne-eqb letter 111 b, ne-eqb letter 115 c, ne-eqb letter 99 f, ne-eqb letter 116 g, ne-eqb letter 109 h)
+        (skipped-else (preambleBy o) letter v e (ne-eqb (min (o .had) 5) 7 (λ k. omega arith))))
 
-pub ruleset fronts = (line-short, line-is)
+    preamble-rest : preambleLine (preambleBy o) letter v ≡ cond w (some (preambleBy o)) none
+    unfolding preambleLine
+    preamble-rest =
+        by-bool (isIpbcp letter v) _
+        (λ e. rw (e, is, skipped-not letter v e))
+        (λ e. rw (e, is) (field-rest e))
+
+    pub field-skipped : w ≡ true → extendedBy (Go o) ≡ preambleLine (preambleBy o) letter v
+    unfolding extendedBy
+    field-skipped e = sym (preamble-rest ∙ rw e)
+
+    pub field-other : w ≡ false → extendedBy Wrong ≡ preambleLine (preambleBy o) letter v
+    unfolding extendedBy
+    field-other e = sym (preamble-rest ∙ rw e)
+
+pub ruleset fields = (field-v, field-o, field-s, field-c, field-t, field-skipped, field-other)
+
+-- ---- between the ipbcp line and the media line: d has six needed lines
+pub between-line : (a : Address) (letter : ℕ) (v : List ℕ) → (letter ≡ 109 → ⊥) → fieldOf (between a) letter v ≡ cond (isSkipped letter v) (some (between a)) none
+unfolding fieldOf versionLine originLine sessionLine connectionLine timeLine needed between isSkipped has
+between-line a letter v h =
+    by-eq letter 118 _ (λ e. rw e)
+    (λ b. by-eq letter 111 _ (λ e. rw e)
+    (λ c. by-eq letter 115 _ (λ e. rw e)
+    (λ d. by-eq letter 99 _ (λ e. rw e)
+    (λ f. by-eq letter 116 _ (λ e. rw e)
+    (λ g. rw (ne-eqb letter 118 b, ne-eqb letter 111 c, ne-eqb letter 115 d, ne-eqb letter 99 f, ne-eqb letter 116 g, ne-eqb letter 109 h) (skipped-six a letter v))))))
+
+-- ---- behind the media line
+-- an attribute of none of the three kinds says nothing
+attribute-none : (s : Stream) (a : List ℕ) → isAttribute a ≡ false → attributeOf s a ≡ some s
+unfolding isAttribute attributeOf
+attribute-none s a h =
+    by-bool (begins rtpmapWord a) _
+    (λ e. absurd-true (rw e at h))
+    (λ e. by-bool (begins fmtpWord a) _
+    (λ f. absurd-true (rw (e, f) at h))
+    (λ f. by-bool (begins ptimeWord a) _
+    (λ g. absurd-true (rw (e, f, g) at h))
+    (λ g. rw (e, f, g))))
+  where
+    absurd-true : true ≡ false → attributeOf s a ≡ some s
+    absurd-true z = cc
+
+module _ (a : Address) (s : Stream) where
+  -- each needed line stands before
+  later-rest : (letter : ℕ) (v : List ℕ) → (letter ≡ 97 → ⊥) → fieldOf (later a s) letter v ≡ cond (has letter skippedLetters) (some (later a s)) none
+  unfolding fieldOf versionLine originLine sessionLine connectionLine timeLine mediaLine needed later has
+  later-rest letter v k =
+      by-eq letter 118 _ (λ e. rw e)
+      (λ b. by-eq letter 111 _ (λ e. rw e)
+      (λ c. by-eq letter 115 _ (λ e. rw e)
+      (λ d. by-eq letter 99 _ (λ e. rw e)
+      (λ f. by-eq letter 116 _ (λ e. rw e)
+      (λ g. by-eq letter 109 _ (λ e. rw e)
+      (λ h. rw (ne-eqb letter 118 b, ne-eqb letter 111 c, ne-eqb letter 115 d, ne-eqb letter 99 f, ne-eqb letter 116 g, ne-eqb letter 109 h, ne-eqb letter 97 k)))))))
+
+  later-attribute : (v : List ℕ) → begins ipbcpWord v ≡ false → Option·map (later a) (attributeOf s v) ≡ fieldOf (later a s) 97 v
+  unfolding fieldOf attributeLine later withStream
+  later-attribute v e =
+      by-bool (isAttribute v) _
+      (λ h. rw (e, h))
+      (λ h. rw (e, h, attribute-none s v h))
+
+module _ (m : List ℕ) (s : Places) (letter : ℕ) (v : Span) where
+  module _ (is : letter ≡ 97) (t : List ℕ) (at : t ≡ textOf m v) (b : Bool) (p : b ≡ begins ipbcpWord t) where
+    told : (c : Bool) → b ≡ c → begins ipbcpWord (textOf m v) ≡ c
+    told c e = rw (← at) (sym p ∙ e)
+
+    pub later-ipbcp : b ≡ true → LaterLine m s letter v TakenWrong
+    unfolding fieldOf attributeLine ipbcpLine needed later laterBy takenBy
+    later-ipbcp e = record { is = λ a. rw (is, told true e) }
+
+    pub later-a : b ≡ false → (r : Taken) → takenBy m r ≡ attributeOf (streamBy m s) (textOf m v) → LaterLine m s letter v r
+    unfolding laterBy
+    later-a e r q = record { is = λ a. rw (is, q) (later-attribute a (streamBy m s) (textOf m v) (told false e)) }
+
+  module _ (no : letter ≡ 97 → ⊥) (w : Bool) (is : w ≡ has letter skippedLetters) where
+    pub later-skipped : w ≡ true → LaterLine m s letter v (TakenStream s)
+    unfolding laterBy takenBy
+    later-skipped e = record { is = λ a. sym (later-rest a (streamBy m s) letter (textOf m v) no ∙ rw (← is, e)) }
+
+    pub later-other : w ≡ false → LaterLine m s letter v TakenWrong
+    unfolding laterBy takenBy
+    later-other e = record { is = λ a. sym (later-rest a (streamBy m s) letter (textOf m v) no ∙ rw (← is, e)) }
+
+pub ruleset laters = (later-ipbcp, later-a, later-skipped, later-other)

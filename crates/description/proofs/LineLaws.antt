@@ -1,158 +1,158 @@
 -- Laws of the lines: what the code found of a line's tokens tells whether it is right, and what it makes of the draft.
 -- Assumes nothing.
-use Prim.Native.Nat.{ℕ, _+_}
+use Prim.Native.Nat.{ℕ, _+_, _<_, min}
 use mathlib.Core.Path.{_≡_, sym, ap, _∙_}
 use mathlib.Core.List.{List}
 use mathlib.Core.Bool.{Bool, true, false}
-use mathlib.Core.Option.{Option·map}
-use lib.ListN.{length, drop}
-use lib.Dec.{ltb}
+use lib.ListN.{length, take, drop}
+use lib.Dec.{eqb, ltb}
 use native.Mathlib.Omega.{arith}
 use borrow.Author.Tests.{lt-ltb, le-ltb, eq-eqb, ne-eqb}
 use Rattle.octets.specs.Split.{has, before, findAt, Found}
 use Rattle.octets.proofs.CaseLaws.{by-bool}
 use Rattle.octets.proofs.SplitLaws.{has-before, has-not}
-use Rattle.octets.specs.Words.{begins, same, digitRun}
-use Rattle.octets.specs.Spans.{textOf}
+use Rattle.octets.specs.Words.{same, digitRun}
 use Rattle.texts.specs.Tokens.{token, tokenCount}
-use Rattle.texts.proofs.TokenLaws.{tokens-are, tokens-arent}
+use Rattle.texts.specs.declared.Two.{Two}
+use Rattle.texts.specs.declared.Two.the-variants as two
+use Rattle.texts.specs.declared.Three.{Three}
+use Rattle.texts.specs.declared.Three.the-variants as three
+use Rattle.texts.specs.Lengths.{behindToken, tokensOf, twoBy, threeBy}
+use Rattle.texts.proofs.LengthLaws.{behind-more, behind-other, two-isnt, two-count, two-first, two-second, three-isnt, three-count, three-first, three-second, three-third}
+use Rattle.address.specs.declared.Address.{Address}
 use Rattle.address.specs.declared.Parsed.{Parsed}
-use Rattle.address.specs.declared.Parsed.the-variants.{Unreadable}
-use Rattle.address.specs.declared.Address.the-variants.{V4}
-use Rattle.media.specs.declared.Stream.{Stream as Places}
-use Rattle.media.specs.declared.Taken.{Taken}
-use Rattle.media.specs.declared.Taken.the-variants.{Stream as TakenStream, Wrong as TakenWrong}
-use Rattle.media.specs.Attributes.{mediaOf, isAttribute, attributeOf}
-use Rattle.media.specs.Meaning.{streamBy, takenBy, barePlaces}
-use Rattle.media.proofs.LineLaws.{bare-says}
-use Rattle.description.specs.declared.Draft.{Draft as DraftPlaces}
-use Rattle.description.specs.declared.Step.{Step}
-use Rattle.description.specs.declared.Step.the-variants.{Go, Wrong}
-use Rattle.description.specs.Draft.{needed, inWord, ip4Word, ip6Word, isOrigin, addressOf, connectionOf, isTime, ipbcpWord, ipbcpLine, withStream, mediaLine, attributeLine, start}
-use Rattle.description.specs.Meaning.{draftBy, stepBy}
-
--- ---- before the first line
-pub start-is : (y : Places) → y ≡ barePlaces (record { at = 0; len = 0 }) 0 (record { at = 0; len = 0 }) 0
-    → (m : List ℕ) → draftBy m (record { had = 0; address = V4 0; stream = y }) ≡ start
-unfolding start draftBy textOf
-start-is y e m = rw (e, bare-says m (record { at = 0; len = 0 }) (record { at = 0; len = 0 }) 0 0)
-
--- ---- a word or a run of digits that the code tested: t says what was found of the k-th token a
-module _ (k : ℕ) (v a : List ℕ) (at : a ≡ token k v) (t : Bool) where
-  tested : (f : List ℕ → Bool) → t ≡ f a → (b : Bool) → t ≡ b → f (token k v) ≡ b
-  tested f is b e = rw (← at) (sym is ∙ e)
+use Rattle.address.specs.declared.Parsed.the-variants.{Unicast, Unreadable}
+use Rattle.address.specs.Kinds.{onParsed}
+use Rattle.description.specs.declared.Preamble.{Preamble}
+use Rattle.description.specs.declared.Extended.the-variants.{Go, Wrong}
+use Rattle.description.specs.Draft.{needed, reached, inWord, ip4Word, ip6Word, isOrigin, addressOf, connectionOf, withAddress, connectionLine, isTime}
+use Rattle.description.specs.Meaning.{preambleBy, extendedBy, isHost}
 
 -- ---- `o=`
-module _ (v : List ℕ) (n : ℕ) (count : n ≡ tokenCount v) where
-  pub origin-few : (n ≡ 6 → ⊥) → false ≡ isOrigin v
-  unfolding isOrigin
-  origin-few h = rw (tokens-arent n 6 v count h)
+module _ (v : List ℕ) (y : Three) (is : threeBy v y ≡ tokensOf 3 v) where
+  pub host-few : y ≡ three.Other → false ≡ isHost v
+  unfolding isHost
+  host-few e = rw (three-isnt v y is e)
 
-  module _ (six : n ≡ 6) (a : List ℕ) (third : a ≡ token 3 v) (t : Bool) (is : t ≡ same inWord a) where
-    pub origin-net : t ≡ false → false ≡ isOrigin v
-    unfolding isOrigin
-    origin-net e = rw (tokens-are n 6 v count six, tested 3 v a third t (same inWord) is false e)
+  module _ (a b : ℕ) (q : y ≡ three.Lengths a b) (x : List ℕ) (first : x ≡ take a v) (t : Bool) (word : t ≡ same inWord x) where
+    in-is : (c : Bool) → t ≡ c → same inWord (token 0 v) ≡ c
+    in-is c e = rw (three-first v y is a b q, ← first) (sym word ∙ e)
 
-    module _ (yes : t ≡ true) (b : List ℕ) (fourth : b ≡ token 4 v) (u : Bool) (four : u ≡ same ip4Word b) where
-      pub origin-four : u ≡ true → true ≡ isOrigin v
-      unfolding isOrigin
-      origin-four e =
-          rw (tokens-are n 6 v count six, tested 3 v a third t (same inWord) is true yes, tested 4 v b fourth u (same ip4Word) four true e)
+    pub host-net : t ≡ false → false ≡ isHost v
+    unfolding isHost
+    host-net e = rw (three-count v y is a b q, in-is false e)
 
-      pub origin-six : u ≡ false → (w : Bool) → w ≡ same ip6Word b → w ≡ isOrigin v
-      unfolding isOrigin
-      origin-six e w p =
-          rw (tokens-are n 6 v count six, tested 3 v a third t (same inWord) is true yes, tested 4 v b fourth u (same ip4Word) four false e) (p ∙ rw fourth)
+    module _ (yes : t ≡ true) (r : List ℕ) (rest : r ≡ drop (a + 1) v) (f : List ℕ) (second : f ≡ take b r) (u : Bool) (four : u ≡ same ip4Word f) where
+      family : token 1 v ≡ f
+      family = three-second v y is a b q ∙ rw (← rest, ← second)
 
-pub ruleset origins = (origin-few, origin-net, origin-four, origin-six)
+      pub host-four : u ≡ true → true ≡ isHost v
+      unfolding isHost
+      host-four e = rw (three-count v y is a b q, in-is true yes, family, ← four, e)
+
+      pub host-six : u ≡ false → (w : Bool) → w ≡ same ip6Word f → w ≡ isHost v
+      unfolding isHost
+      host-six e w p = rw (three-count v y is a b q, in-is true yes, family, ← four, e) p
+
+pub ruleset hosts = (host-few, host-net, host-four, host-six)
+
+origin-host : (v : List ℕ) → isHost (behindToken (behindToken (behindToken v))) ≡ isOrigin v
+unfolding isHost isOrigin
+origin-host v =
+    let a = behindToken v in
+    let b = behindToken a in
+    by-bool (eqb (tokenCount (behindToken b)) 3) _
+    (λ h. let f = behind-more b 2 h in
+    let g = behind-more a 3 (f .0) in
+    let k = behind-more v 4 (g .0) in
+    let x : token 3 v ≡ token 0 (behindToken b) = k .1 2 ∙ g .1 1 ∙ f .1 0 in
+    let y : token 4 v ≡ token 1 (behindToken b) = k .1 3 ∙ g .1 2 ∙ f .1 1 in
+    rw (h, k .0, x, y))
+    (λ h. rw (h, behind-other v 4 (behind-other a 3 (behind-other b 2 h))))
+
+pub origin-is : (v a b c : List ℕ) → a ≡ behindToken v → b ≡ behindToken a → c ≡ behindToken b → (t : Bool) → t ≡ isHost c → t ≡ isOrigin v
+origin-is v a b c p q r t e = e ∙ rw (r, q, p) (origin-host v)
 
 -- ---- `c=`
-module _ (v : List ℕ) (n : ℕ) (count : n ≡ tokenCount v) where
-  pub connection-few : (n ≡ 3 → ⊥) → Unreadable ≡ connectionOf v
+module _ (v : List ℕ) (y : Three) (is : threeBy v y ≡ tokensOf 3 v) where
+  pub connection-few : y ≡ three.Other → Unreadable ≡ connectionOf v
   unfolding connectionOf
-  connection-few h = rw (tokens-arent n 3 v count h)
+  connection-few e = rw (three-isnt v y is e)
 
-  module _ (three : n ≡ 3) (a : List ℕ) (first : a ≡ token 0 v) (t : Bool) (is : t ≡ same inWord a) where
+  module _ (a b : ℕ) (q : y ≡ three.Lengths a b) (x : List ℕ) (first : x ≡ take a v) (t : Bool) (word : t ≡ same inWord x) where
+    net : (c : Bool) → t ≡ c → same inWord (token 0 v) ≡ c
+    net c e = rw (three-first v y is a b q, ← first) (sym word ∙ e)
+
     pub connection-net : t ≡ false → Unreadable ≡ connectionOf v
     unfolding connectionOf
-    connection-net e = rw (tokens-are n 3 v count three, tested 0 v a first t (same inWord) is false e)
+    connection-net e = rw (three-count v y is a b q, net false e)
 
-    pub connection-is : t ≡ true → (b c : List ℕ) → b ≡ token 1 v → c ≡ token 2 v → (r : Parsed) → r ≡ addressOf b c → r ≡ connectionOf v
+    pub connection-is : t ≡ true → (r f g : List ℕ) → r ≡ drop (a + 1) v → f ≡ take b r → g ≡ drop (b + 1) r → (p : Parsed) → p ≡ addressOf f g → p ≡ connectionOf v
     unfolding connectionOf
-    connection-is e b c p q r x =
-        rw (tokens-are n 3 v count three, tested 0 v a first t (same inWord) is true e) (x ∙ rw (p, q))
+    connection-is e r f g k l o p z =
+        rw (three-count v y is a b q, net true e, three-second v y is a b q, three-third v y is a b q, ← k, ← l, ← o) z
 
 pub ruleset connections = (connection-few, connection-net, connection-is)
 
 -- ---- `t=`
-module _ (v : List ℕ) (n : ℕ) (count : n ≡ tokenCount v) where
-  pub time-few : (n ≡ 2 → ⊥) → false ≡ isTime v
+module _ (v : List ℕ) (y : Two) (is : twoBy v y ≡ tokensOf 2 v) where
+  pub time-few : y ≡ two.Other → false ≡ isTime v
   unfolding isTime
-  time-few h = rw (tokens-arent n 2 v count h)
+  time-few e = rw (two-isnt v y is e)
 
-  module _ (two : n ≡ 2) (a : List ℕ) (first : a ≡ token 0 v) (t : Bool) (is : t ≡ digitRun a) where
+  module _ (a : ℕ) (q : y ≡ two.Lengths a) (x : List ℕ) (first : x ≡ take a v) (t : Bool) (digits : t ≡ digitRun x) where
+    run : (c : Bool) → t ≡ c → digitRun (token 0 v) ≡ c
+    run c e = rw (two-first v y is a q, ← first) (sym digits ∙ e)
+
     pub time-no : t ≡ false → false ≡ isTime v
     unfolding isTime
-    time-no e = rw (tokens-are n 2 v count two, tested 0 v a first t digitRun is false e)
+    time-no e = rw (two-count v y is a q, run false e)
 
-    pub time-is : t ≡ true → (b : List ℕ) → b ≡ token 1 v → (w : Bool) → w ≡ digitRun b → w ≡ isTime v
+    pub time-is : t ≡ true → (r : List ℕ) → r ≡ drop (a + 1) v → (w : Bool) → w ≡ digitRun r → w ≡ isTime v
     unfolding isTime
-    time-is e b p w x = rw (tokens-are n 2 v count two, tested 0 v a first t digitRun is true e) (x ∙ rw p)
+    time-is e r p w z = rw (two-count v y is a q, run true e, two-second v y is a q, ← p) z
 
 pub ruleset times = (time-few, time-no, time-is)
 
--- ---- a stream in the draft's place for it
-pub stream-taken : (m : List ℕ) (d : DraftPlaces) (x : Taken) (s : Places) → x ≡ TakenStream s
-    → stepBy m (Go (record { had = 7; address = d .address; stream = s })) ≡ Option·map (withStream (draftBy m d)) (takenBy m x)
-unfolding stepBy draftBy withStream takenBy
-stream-taken m d x s e = rw e
+-- ---- a needed line behind n others
+module _ (o : Preamble) (n : ℕ) (low : n < 5) (right : Bool) where
+  pub needed-off : (o .had ≡ n → ⊥) → extendedBy Wrong ≡ needed n right (preambleBy o)
+  unfolding extendedBy preambleBy needed
+  needed-off h = rw (ne-eqb (min (o .had) 5) n (λ e. h (omega arith)))
 
-pub stream-wrong : (m : List ℕ) (d : DraftPlaces) (x : Taken) → x ≡ TakenWrong → stepBy m Wrong ≡ Option·map (withStream (draftBy m d)) (takenBy m x)
-unfolding stepBy takenBy
-stream-wrong m d x e = rw e
+  module _ (at : o .had ≡ n) where
+    in-place : eqb (min (o .had) 5) n ≡ true
+    in-place = eq-eqb (min (o .had) 5) n (omega arith)
 
-pub ruleset streams = (stream-taken, stream-wrong)
+    pub needed-wrong : right ≡ false → extendedBy Wrong ≡ needed n right (preambleBy o)
+    unfolding extendedBy preambleBy needed
+    needed-wrong e = rw (in-place, e)
 
--- ---- `m=` and `a=`
-module _ (m v : List ℕ) (d : DraftPlaces) where
-  pub media-early : (d .had ≡ 6 → ⊥) → stepBy m Wrong ≡ mediaLine (draftBy m d) v
-  unfolding mediaLine draftBy stepBy
-  media-early h = rw (ne-eqb (d .had) 6 h)
+    pub needed-right : right ≡ true → extendedBy (Go (record { had = n + 1; address = o .address })) ≡ needed n right (preambleBy o)
+    unfolding extendedBy preambleBy needed reached
+    needed-right e = let z : min (n + 1) 5 ≡ n + 1 = omega arith in rw (in-place, e, z)
 
-  pub media-is : d .had ≡ 6 → (x : Taken) → takenBy m x ≡ mediaOf v → (r : Step) → ((z : List ℕ) → stepBy z r ≡ Option·map (withStream (draftBy z d)) (takenBy z x))
-      → stepBy m r ≡ mediaLine (draftBy m d) v
-  unfolding mediaLine draftBy
-  media-is h x p r q = rw (eq-eqb (d .had) 6 h, ← p) (q m)
+pub ruleset neededs = (needed-off, needed-wrong, needed-right)
 
-  module _ (a : List ℕ) (at : a ≡ v) (t : Bool) (is : t ≡ begins ipbcpWord a) where
-    pub attribute-ipbcp : t ≡ true → (r : Step) → ((z : List ℕ) → stepBy z r ≡ needed 5 true (draftBy z d)) → stepBy m r ≡ attributeLine (draftBy m d) v
-    unfolding attributeLine ipbcpLine
-    attribute-ipbcp e r q = let f : begins ipbcpWord v ≡ true = rw (← at) (sym is ∙ e) in rw f (q m)
+-- ---- `c=` behind three others
+module _ (o : Preamble) (v : List ℕ) where
+  pub connection-off : (o .had ≡ 3 → ⊥) → extendedBy Wrong ≡ connectionLine (preambleBy o) v
+  unfolding extendedBy preambleBy connectionLine
+  connection-off h = rw (ne-eqb (min (o .had) 5) 3 (λ e. h (omega arith)))
 
-    module _ (no : t ≡ false) (u : Bool) (one : u ≡ isAttribute a) where
-      not-ipbcp : begins ipbcpWord v ≡ false
-      not-ipbcp = rw (← at) (sym is ∙ no)
+  module _ (at : o .had ≡ 3) (y : Parsed) (is : y ≡ connectionOf v) where
+    behind-three : eqb (min (o .had) 5) 3 ≡ true
+    behind-three = eq-eqb (min (o .had) 5) 3 (omega arith)
 
-      pub attribute-skipped : u ≡ false → stepBy m (Go d) ≡ attributeLine (draftBy m d) v
-      unfolding attributeLine stepBy
-      attribute-skipped e = let f : isAttribute v ≡ false = rw (← at) (sym one ∙ e) in rw (not-ipbcp, f)
+    pub connection-unread : y ≡ Unreadable → extendedBy Wrong ≡ connectionLine (preambleBy o) v
+    unfolding extendedBy preambleBy connectionLine onParsed
+    connection-unread e = rw (behind-three, ← is, e)
 
-      module _ (yes : u ≡ true) where
-        is-one : isAttribute v ≡ true
-        is-one = rw (← at) (sym one ∙ yes)
+    pub connection-read : (a : Address) → y ≡ Unicast a → extendedBy (Go (record { had = 4; address = a })) ≡ connectionLine (preambleBy o) v
+    unfolding extendedBy preambleBy connectionLine onParsed withAddress
+    connection-read a e = rw (behind-three, ← is, e)
 
-        pub attribute-early : (d .had ≡ 7 → ⊥) → stepBy m Wrong ≡ attributeLine (draftBy m d) v
-        unfolding attributeLine draftBy stepBy
-        attribute-early h = rw (not-ipbcp, is-one, ne-eqb (d .had) 7 h)
-
-        pub attribute-is : d .had ≡ 7 → (x : Taken) → takenBy m x ≡ attributeOf (streamBy m (d .stream)) v → (r : Step)
-            → ((z : List ℕ) → stepBy z r ≡ Option·map (withStream (draftBy z d)) (takenBy z x)) → stepBy m r ≡ attributeLine (draftBy m d) v
-        unfolding attributeLine draftBy
-        attribute-is h x p r q = rw (not-ipbcp, is-one, eq-eqb (d .had) 7 h, ← p) (q m)
-
-pub ruleset medias = (media-early, media-is)
-
-pub ruleset attributes = (attribute-ipbcp, attribute-skipped, attribute-early, attribute-is)
+pub ruleset connectionLines = (connection-off, connection-unread, connection-read)
 
 -- ---- letters that are skipped
 pub found-has : (s : List ℕ) (c e : ℕ) → Found s c 0 e → (t : Bool) → t ≡ ltb e (length s) → t ≡ has c s

@@ -1,16 +1,63 @@
--- What the structs and enums of this crate stand for: their spans are texts of the message m.
-use Prim.Native.Nat.{ℕ}
-use mathlib.Core.List.{List}
-use mathlib.Core.Option.{Option, none, some}
-use Rattle.media.specs.Meaning.{streamBy}
-use Rattle.description.specs.declared.Draft.{Draft as DraftPlaces}
-use Rattle.description.specs.declared.Step.{Step}
-use Rattle.description.specs.declared.Step.the-variants.{Go, Wrong}
-use Rattle.description.specs.Draft.{Draft}
+-- What the structs and enums of this crate stand for: a draft before the ipbcp line, between it and the media line, or
+-- after that.
+use Prim.Native.Nat.{ℕ, min}
+use mathlib.Core.Path.{_≡_}
+use mathlib.Core.List.{List, []}
+use mathlib.Core.Bool.{Bool, not, _&&_, _||_, cond}
+use mathlib.Core.Option.{Option, none, some, Option·map}
+use lib.Dec.{eqb}
+use Rattle.octets.specs.declared.Span.{Span}
+use Rattle.octets.specs.Spans.{textOf}
+use Rattle.octets.specs.Split.{has}
+use Rattle.octets.specs.Words.{begins, same}
+use Rattle.texts.specs.Tokens.{token, tokenCount}
+use Rattle.address.specs.declared.Address.{Address}
+use Rattle.media.specs.declared.Stream.{Stream as Places}
+use Rattle.media.specs.declared.Taken.{Taken}
+use Rattle.media.specs.Stream.{Stream, bareStream}
+use Rattle.media.specs.Attributes.{isAttribute}
+use Rattle.media.specs.Meaning.{streamBy, takenBy}
+use Rattle.description.specs.declared.Preamble.{Preamble}
+use Rattle.description.specs.declared.Extended.{Extended}
+use Rattle.description.specs.declared.Extended.the-variants.{Go, Wrong}
+use Rattle.description.specs.Draft.{Draft, inWord, ip4Word, ip6Word, ipbcpWord, skippedLetters, fieldOf}
 
-unfoldable pub draftBy : List ℕ → DraftPlaces → Draft
-draftBy m d = record { had = d .had; address = d .address; stream = streamBy m (d .stream) }
+-- before the ipbcp line
+unfoldable pub preambleBy : Preamble → Draft
+preambleBy o = record { had = min (o .had) 5; address = o .address; stream = bareStream [] 0 [] 0 }
 
-unfoldable pub stepBy : List ℕ → Step → Option Draft
-stepBy m (Go d) = some (draftBy m d)
-stepBy m Wrong = none
+unfoldable pub extendedBy : Extended → Option Draft
+extendedBy (Go o) = some (preambleBy o)
+extendedBy Wrong = none
+
+-- between the ipbcp line and the media line
+unfoldable pub between : Address → Draft
+between a = record { had = 6; address = a; stream = bareStream [] 0 [] 0 }
+
+-- for a function that is not public: the last three of the six tokens of an origin
+unfoldable pub isHost : List ℕ → Bool
+isHost v = eqb (tokenCount v) 3 && (same inWord (token 0 v) && (same ip4Word (token 1 v) || same ip6Word (token 1 v)))
+
+-- a line of this letter and value is an ipbcp line
+unfoldable pub isIpbcp : ℕ → List ℕ → Bool
+isIpbcp letter v = eqb letter 97 && begins ipbcpWord v
+
+-- it is skipped before the media line
+unfoldable pub isSkipped : ℕ → List ℕ → Bool
+isSkipped letter v = cond (eqb letter 97) (not (begins ipbcpWord v) && not (isAttribute v)) (has letter skippedLetters)
+
+-- the preamble d with a line of this letter and value; an ipbcp line is no part of it
+unfoldable pub preambleLine : Draft → ℕ → List ℕ → Option Draft
+preambleLine d letter v = cond (isIpbcp letter v) none (fieldOf d letter v)
+
+-- after the media line
+unfoldable pub later : Address → Stream → Draft
+later a s = record { had = 7; address = a; stream = s }
+
+-- what was taken, by the octets of m that are in its spans
+unfoldable pub laterBy : Address → List ℕ → Taken → Option Draft
+laterBy a m r = Option·map (later a) (takenBy m r)
+
+-- r is the stream s with the line of this letter and value after its media line, whatever the address is
+pub record LaterLine (m : List ℕ) (s : Places) (letter : ℕ) (v : Span) (r : Taken) : Type 0 where
+  pub is : (a : Address) → laterBy a m r ≡ fieldOf (later a (streamBy m s)) letter (textOf m v)

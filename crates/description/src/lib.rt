@@ -1,84 +1,104 @@
-// What the lines of a Request or Accepted say, one line after another.
+// What the lines of a Request or Accepted say: those before the ipbcp line (the preamble), those between it and the media
+// line, and those after the media line.
 mod lines;
 
 ghost use mathlib.Core.Path.{_≡_};
-ghost use mathlib.Core.List.{List};
-ghost use Prim.Native.Nat.{ℕ};
-ghost use Rattle.octets.specs.Spans.{textOf};
-ghost use Rattle.description.specs.Draft.{start, fieldOf, lineOf};
-ghost use Rattle.description.specs.Meaning.{draftBy, stepBy};
+ghost use Rattle.description.specs.Draft.{start};
+ghost use Rattle.description.specs.Meaning.{preambleBy, extendedBy, isIpbcp, isSkipped, preambleLine, LaterLine};
 use address::Address;
 use media::Stream;
+use media::Taken;
 use octets::Span;
 use octets::spans::text;
 use octets::words::equals;
+use octets::words::starts;
 
-// What the lines so far have said; its texts are places in the message.
-pub struct Draft {
-    // How many of the seven needed lines there were.
+// What the lines before the ipbcp line have said.
+pub struct Preamble {
+    // How many of the five needed lines there were, capped at five.
     pub had: u8,
     pub address: Address,
-    pub stream: Stream,
 }
 
-// The draft with one line more.
-pub enum Step {
-    Go(Draft),
+// The preamble with one line more.
+pub enum Extended {
+    Go(Preamble),
     Wrong,
 }
 
-// The draft before the first line.
-pub fn start() -> Draft
-    ensures { λ r. ⌜ ((m : List ℕ) → draftBy m r ≡ start) ⌝ }
+// The preamble before the first line.
+pub fn start() -> Preamble
+    ensures { λ r. ⌜ preambleBy r ≡ start ⌝ }
 {
-    let none = Span { at: 0, len: 0 };
-    Draft {
+    Preamble {
         had: 0,
         address: Address::V4(0),
-        stream: media::bare(none, 0, none, 0),
     }
 }
 
-// The draft d with the line of this letter whose value is the text of v.
-fn read_field(d: Draft, m: &[u8], letter: u8, v: Span) -> Step
-    ensures { λ r. ⌜ stepBy (now (m .entry)) r ≡ fieldOf (draftBy (now (m .entry)) d) letter (textOf (now (m .entry)) v) ⌝ }
+// A line of this letter whose value is t is an ipbcp line.
+pub fn is_ipbcp(letter: u8, t: &[u8]) -> bool
+    ensures { λ r. ⌜ r ≡ isIpbcp letter (now (t .entry)) ⌝ }
 {
-    let t = text(m, v);
+    if letter == b'a' {
+        return starts(b"ipbcp:", t);
+    }
+    false
+}
+
+// A line of this letter whose value is t is skipped, wherever it stands before the media line.
+pub fn is_skipped(letter: u8, t: &[u8]) -> bool
+    ensures { λ r. ⌜ r ≡ isSkipped letter (now (t .entry)) ⌝ }
+{
+    if letter != b'a' {
+        return lines::is_skipped_letter(letter);
+    }
+    if starts(b"ipbcp:", t) {
+        return false;
+    }
+    if media::is_attribute(t) {
+        return false;
+    }
+    true
+}
+
+// The preamble p with the line of this letter whose value is t. The ipbcp line and the media line are no part of it.
+pub fn preamble_line(p: Preamble, letter: u8, t: &[u8]) -> Extended
+    ensures { λ r. ⌜ extendedBy r ≡ preambleLine (preambleBy p) letter (now (t .entry)) ⌝ }
+{
     if letter == b'v' {
-        return lines::needed(d, 0, equals(b"0", t));
+        return lines::needed(p, 0, equals(b"0", t));
     }
     if letter == b'o' {
-        return lines::needed(d, 1, lines::is_origin(t));
+        return lines::needed(p, 1, lines::is_origin(t));
     }
     if letter == b's' {
-        return lines::needed(d, 2, true);
+        return lines::needed(p, 2, true);
     }
     if letter == b'c' {
-        return lines::connection_line(d, t);
+        return lines::connection_line(p, t);
     }
     if letter == b't' {
-        return lines::needed(d, 4, lines::is_time(t));
+        return lines::needed(p, 4, lines::is_time(t));
     }
-    if letter == b'm' {
-        return lines::media_line(d, m, v);
+    if is_skipped(letter, t) {
+        return Extended::Go(p);
     }
-    if letter == b'a' {
-        return lines::attribute_line(d, m, v);
-    }
-    if lines::is_skipped(letter) {
-        return Step::Go(d);
-    }
-    Step::Wrong
+    Extended::Wrong
 }
 
-// The draft d with the line that is the text of sp in m.
-pub fn read_line(d: Draft, m: &[u8], sp: Span) -> Step
-    ensures { λ r. ⌜ stepBy (now (m .entry)) r ≡ lineOf (draftBy (now (m .entry)) d) (textOf (now (m .entry)) sp) ⌝ }
+// The stream s with the line of this letter after its media line; the line's value is the text of v in m.
+pub fn later_line(s: Stream, m: &[u8], letter: u8, v: Span) -> Taken
+    ensures { λ r. ⌜ LaterLine (now (m .entry)) s letter v r ⌝ }
 {
-    let t = text(m, sp);
-    if t.len() < 2 {
-        return Step::Wrong;
+    if letter == b'a' {
+        if starts(b"ipbcp:", text(m, v)) {
+            return Taken::Wrong;
+        }
+        return media::add_attribute(s, m, v);
     }
-    let letter = t[0];
-    read_field(d, m, letter, texts::skip(m, sp, 2))
+    if lines::is_skipped_letter(letter) {
+        return Taken::Stream(s);
+    }
+    Taken::Wrong
 }

@@ -1,60 +1,66 @@
 // The lines by their letter; t is what stands behind the letter and '='.
 ghost use mathlib.Core.Path.{_≡_};
-ghost use mathlib.Core.List.{List};
-ghost use mathlib.Core.Option.{Option·map};
-ghost use Prim.Native.Nat.{ℕ, _<_};
-ghost use Rattle.octets.specs.Spans.{textOf};
+ghost use Prim.Native.Nat.{_<_};
 ghost use Rattle.octets.specs.Split.{has};
-ghost use Rattle.media.specs.Meaning.{takenBy};
-ghost use Rattle.description.specs.Draft.{needed, isOrigin, addressOf, connectionOf, connectionLine, isTime, mediaLine, attributeLine, skippedLetters, withStream};
-ghost use Rattle.description.specs.Meaning.{draftBy, stepBy};
-use crate::Draft;
-use crate::Step;
+ghost use Rattle.description.specs.Draft.{needed, isOrigin, addressOf, connectionOf, connectionLine, isTime, skippedLetters};
+ghost use Rattle.description.specs.Meaning.{preambleBy, extendedBy, isHost};
+use crate::Extended;
+use crate::Preamble;
 use address::Parsed;
 use address::ipv4::read_ipv4;
 use address::ipv6::read_ipv6;
-use media::Taken;
-use octets::Span;
 use octets::parts::find_from;
-use octets::parts::part;
-use octets::spans::text;
+use octets::spans::after;
+use octets::spans::up_to;
 use octets::words::digit_run;
 use octets::words::equals;
-use octets::words::starts;
-use texts::count_tokens;
+use texts::Three;
+use texts::Two;
+use texts::behind_token;
+use texts::cut_three;
+use texts::cut_two;
 
-// The needed line behind n others, if it is right.
-pub(crate) fn needed(d: Draft, n: u8, right: bool) -> Step
-    requires { ⌜ n < 7 ⌝ }
-    ensures { λ r. ⌜ ((m : List ℕ) → stepBy m r ≡ needed n right (draftBy m d)) ⌝ }
+// p with the needed line that follows n others, if that line is right.
+pub(crate) fn needed(p: Preamble, n: u8, right: bool) -> Extended
+    requires { ⌜ n < 5 ⌝ }
+    ensures { λ r. ⌜ extendedBy r ≡ needed n right (preambleBy p) ⌝ }
 {
-    let had = d.had;
+    let had = p.had;
     if had != n {
-        return Step::Wrong;
+        return Extended::Wrong;
     }
     if right {
-        let mut more = d;
-        more.had = n + 1;
-        return Step::Go(more);
+        let address = p.address;
+        return Extended::Go(Preamble {
+            had: n + 1,
+            address,
+        });
     }
-    Step::Wrong
+    Extended::Wrong
 }
 
-// t has six tokens, the fourth IN, the fifth a family.
-pub(crate) fn is_origin(t: &[u8]) -> bool
-    ensures { λ r. ⌜ r ≡ isOrigin (now (t .entry)) ⌝ }
+// t has three tokens, the first IN, the second a family.
+fn is_host(t: &[u8]) -> bool
+    ensures { λ r. ⌜ r ≡ isHost (now (t .entry)) ⌝ }
 {
-    if count_tokens(t) != 6 {
+    let Three::Lengths(a, b) = cut_three(t) else {
         return false;
-    }
-    if equals(b"IN", part(t, 32, 3)) {
-        let family = part(t, 32, 4);
+    };
+    if equals(b"IN", up_to(t, a)) {
+        let family = up_to(after(t, a + 1), b);
         if equals(b"IP4", family) {
             return true;
         }
         return equals(b"IP6", family);
     }
     false
+}
+
+// t has six tokens, the last three of them a host.
+pub(crate) fn is_origin(t: &[u8]) -> bool
+    ensures { λ r. ⌜ r ≡ isOrigin (now (t .entry)) ⌝ }
+{
+    is_host(behind_token(behind_token(behind_token(t))))
 }
 
 // The address s of the family that the word names.
@@ -74,95 +80,45 @@ fn address_of(family: &[u8], s: &[u8]) -> Parsed
 fn connection_of(t: &[u8]) -> Parsed
     ensures { λ r. ⌜ r ≡ connectionOf (now (t .entry)) ⌝ }
 {
-    if count_tokens(t) != 3 {
+    let Three::Lengths(a, b) = cut_three(t) else {
         return Parsed::Unreadable;
-    }
-    if equals(b"IN", part(t, 32, 0)) {
-        return address_of(part(t, 32, 1), part(t, 32, 2));
+    };
+    if equals(b"IN", up_to(t, a)) {
+        let rest = after(t, a + 1);
+        return address_of(up_to(rest, b), after(rest, b + 1));
     }
     Parsed::Unreadable
 }
 
-// The draft d with the line `c=` of t.
-pub(crate) fn connection_line(d: Draft, t: &[u8]) -> Step
-    ensures { λ r. ⌜ ((m : List ℕ) → stepBy m r ≡ connectionLine (draftBy m d) (now (t .entry))) ⌝ }
+// The preamble p with the line `c=` of t.
+pub(crate) fn connection_line(p: Preamble, t: &[u8]) -> Extended
+    ensures { λ r. ⌜ extendedBy r ≡ connectionLine (preambleBy p) (now (t .entry)) ⌝ }
 {
-    let had = d.had;
+    let had = p.had;
     if had != 3 {
-        return Step::Wrong;
+        return Extended::Wrong;
     }
     let Parsed::Unicast(a) = connection_of(t) else {
-        return Step::Wrong;
+        return Extended::Wrong;
     };
-    let stream = d.stream;
-    Step::Go(Draft {
-        had: 4,
-        address: a,
-        stream,
-    })
+    Extended::Go(Preamble { had: 4, address: a })
 }
 
 // t is two runs of digits.
 pub(crate) fn is_time(t: &[u8]) -> bool
     ensures { λ r. ⌜ r ≡ isTime (now (t .entry)) ⌝ }
 {
-    if count_tokens(t) != 2 {
+    let Two::Lengths(a) = cut_two(t) else {
         return false;
-    }
-    if digit_run(part(t, 32, 0)) {
-        return digit_run(part(t, 32, 1));
+    };
+    if digit_run(up_to(t, a)) {
+        return digit_run(after(t, a + 1));
     }
     false
 }
 
-// The draft d with a stream in the place of its own.
-fn take_stream(d: Draft, x: Taken) -> Step
-    ensures { λ r. ⌜ ((m : List ℕ) → stepBy m r ≡ Option·map (withStream (draftBy m d)) (takenBy m x)) ⌝ }
-{
-    match x {
-        Taken::Stream(s) => {
-            let address = d.address;
-            Step::Go(Draft {
-                had: 7,
-                address,
-                stream: s,
-            })
-        }
-        Taken::Wrong => Step::Wrong,
-    }
-}
-
-// The draft d with the line `m=`, whose text is that of v in m.
-pub(crate) fn media_line(d: Draft, m: &[u8], v: Span) -> Step
-    ensures { λ r. ⌜ stepBy (now (m .entry)) r ≡ mediaLine (draftBy (now (m .entry)) d) (textOf (now (m .entry)) v) ⌝ }
-{
-    let had = d.had;
-    if had != 6 {
-        return Step::Wrong;
-    }
-    take_stream(d, media::read_media(m, v))
-}
-
-// The draft d with a line `a=`, whose text is that of v in m.
-pub(crate) fn attribute_line(d: Draft, m: &[u8], v: Span) -> Step
-    ensures { λ r. ⌜ stepBy (now (m .entry)) r ≡ attributeLine (draftBy (now (m .entry)) d) (textOf (now (m .entry)) v) ⌝ }
-{
-    let a = text(m, v);
-    if starts(b"ipbcp:", a) {
-        return needed(d, 5, true);
-    }
-    if media::is_attribute(a) {
-        let had = d.had;
-        if had != 7 {
-            return Step::Wrong;
-        }
-        return take_stream(d, media::add_attribute(d.stream, m, v));
-    }
-    Step::Go(d)
-}
-
 // Lines of this letter are skipped.
-pub(crate) fn is_skipped(letter: u8) -> bool
+pub(crate) fn is_skipped_letter(letter: u8) -> bool
     ensures { λ r. ⌜ r ≡ has letter skippedLetters ⌝ }
 {
     let letters = b"iuepbzkr";

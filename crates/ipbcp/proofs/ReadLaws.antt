@@ -1,28 +1,23 @@
--- Laws of reading a message: each line moves the draft, and each answer is the definition's.
+-- Laws of reading a message: each answer is the definition's.
 -- Assumes nothing.
 use Prim.Native.Nat.{ℕ, _≤_, _<_}
-use mathlib.Core.Path.{_≡_, refl, sym, _∙_}
+use mathlib.Core.Path.{_≡_, refl, sym, ap, _∙_}
 use mathlib.Core.List.{List}
-use mathlib.Core.Bool.{Bool, true, false}
-use mathlib.Core.Option.{Option, none, some, Option·elim}
+use mathlib.Core.Bool.{Bool, true, false, cond}
+use mathlib.Core.Option.{Option, none, some}
 use lib.ListN.{length, drop}
+use lib.Dec.{eqb}
 use native.Mathlib.Omega.{arith}
 use borrow.Author.Tests.{le-leb, lt-leb, eq-eqb, ne-eqb}
-use Rattle.octets.specs.declared.Span.{Span}
-use Rattle.octets.specs.Spans.{textOf}
 use Rattle.octets.proofs.CaseLaws.{by-bool}
-use Rattle.sdp.specs.declared.Line.{Line}
-use Rattle.sdp.specs.declared.Line.the-variants.{Text, NoLine}
 use Rattle.sdp.specs.Lines.{lines, inLines}
-use Rattle.sdp.specs.Cut.{firstLine, lineIn}
-use Rattle.sdp.proofs.CutLaws.{loop-lines, loop-inLines, loop-none, loop-end}
+use Rattle.address.specs.declared.Address.{Address}
 use Rattle.media.specs.declared.Stream.{Stream as Places}
-use Rattle.media.specs.Meaning.{streamIn, KeptInside}
-use Rattle.description.specs.declared.Draft.{Draft as DraftPlaces}
-use Rattle.description.specs.declared.Step.{Step}
-use Rattle.description.specs.declared.Step.the-variants.{Go, Wrong}
-use Rattle.description.specs.Draft.{Draft, start, lineOf}
-use Rattle.description.specs.Meaning.{draftBy, stepBy}
+use Rattle.media.specs.declared.Taken.{Taken}
+use Rattle.media.specs.declared.Taken.the-variants.{Stream as TakenStream, Wrong as TakenWrong}
+use Rattle.media.specs.Meaning.{streamBy, streamIn, takenBy, KeptInside}
+use Rattle.description.specs.Draft.{Draft, start}
+use Rattle.description.specs.Meaning.{later, laterBy}
 use Rattle.ipbcp.specs.declared.Kind.{Kind}
 use Rattle.ipbcp.specs.declared.Head.{Head}
 use Rattle.ipbcp.specs.declared.Head.the-variants.{Typed, Untyped}
@@ -30,103 +25,154 @@ use Rattle.ipbcp.specs.declared.Message.{Message}
 use Rattle.ipbcp.specs.declared.Message.the-variants as answer
 use Rattle.ipbcp.specs.Types.{headIn}
 use Rattle.ipbcp.specs.Reading.{linesOf, finish, isDescribed, byHead, readMessage, mostRead}
+use Rattle.ipbcp.specs.Whole.{wholeOf, ended, StreamLines, Reached, TypeAlone, Describes}
 use Rattle.ipbcp.specs.Meaning.{readingIn}
 
 -- ---- a type that the code has matched
 pub described-of : (k j : Kind) (b : Bool) → k ≡ j → b ≡ isDescribed j → b ≡ isDescribed k
 described-of k j b e p = rw e p
 
--- ---- the draft before the first line
-pub lines-start : (m : List ℕ) (d : DraftPlaces) → ((z : List ℕ) → draftBy z d ≡ start) → linesOf (draftBy m d) (lines (drop 0 m)) ≡ linesOf start (lines m)
-lines-start m d q = rw (q m)
+-- ---- the answer by version and type
+-- what all lines say, by the lines that are right
+finish-ended : (k : Kind) (o : Option Draft) → finish k (ended o) ≡ finish k o
+unfolding finish ended
+finish-ended k none = refl
+finish-ended k (some d) = by-bool (eqb (d .had) 7) _ (λ e. rw (e, e)) (λ e. rw e)
 
--- ---- the lines: those before i made d, and x is the answer
-module _ (m : List ℕ) (d : DraftPlaces) (i : ℕ) (x : Option Draft)
-    (inv : linesOf (draftBy m d) (lines (drop i m)) ≡ x) (all : inLines (drop i m) ≡ true) where
-  pub lines-end : length m ≤ i → stepBy m (Go d) ≡ x
-  unfolding linesOf stepBy
-  lines-end h = rw (loop-end m i h) at inv
+finish-by : (m : List ℕ) (k : Kind) (o : Option Draft) → inLines m ≡ true → ended (wholeOf start m) ≡ o → finish k o ≡ finish k (linesOf start (lines m))
+unfolding wholeOf
+finish-by m k o l e =
+    let z : wholeOf start m ≡ linesOf start (lines m) = rw l in
+    rw (← e, z) (finish-ended k (linesOf start (lines m)))
 
-  module _ (y : Line) (w : lineIn m y ≡ some (firstLine (drop i m))) where
-    pub lines-none : y ≡ NoLine → i < length m → stepBy m Wrong ≡ x
-    lines-none q h = let z : true ≡ false = sym all ∙ loop-none m i y w q h in absurd (let o : _≡_ {A = ℕ} 0 1 = cc in omega arith)
+-- y is the version and the type of m
+module _ (m : List ℕ) (y : Head) (is : y ≡ headIn m) where
+  by-head : (r : Message) (x : Head) → y ≡ x → readingIn m r ≡ some (byHead m x) → readingIn m r ≡ some (byHead m (headIn m))
+  by-head r x e p = rw (← is, e) p
 
-    module _ (sp : Span) (n : ℕ) (q : y ≡ Text sp n) (z : Step) (is : stepBy m z ≡ lineOf (draftBy m d) (textOf m sp)) where
-      step : Option·elim (stepBy m z) none (λ e. linesOf e (lines (drop n m))) ≡ x
-      unfolding linesOf
-      step = rw is (rw (loop-lines m i y w sp n q) at inv)
+  pub by-untyped : y ≡ Untyped → readingIn m (answer.Refused 9) ≡ some (byHead m (headIn m))
+  unfolding readingIn byHead
+  by-untyped e = by-head (answer.Refused 9) Untyped e refl
 
-      pub lines-wrong : z ≡ Wrong → stepBy m Wrong ≡ x
-      unfolding stepBy Option·elim
-      lines-wrong e = rw e at step
+  module _ (version : ℕ) (kind : Kind) (e : y ≡ Typed version kind) where
+    pub read-lined : inLines m ≡ true
+    unfolding headIn
+    read-lined =
+        by-bool (inLines m) _
+        (λ h. h)
+        (λ h. let z : Typed version kind ≡ Untyped = sym e ∙ is ∙ rw h in absurd (let o : _≡_ {A = ℕ} 0 1 = cc in omega arith))
 
-      pub lines-more : (e : DraftPlaces) → z ≡ Go e → linesOf (draftBy m e) (lines (drop n m)) ≡ x
-      unfolding stepBy Option·elim
-      lines-more e g = rw g at step
+    pub by-version : (version ≡ 1 → ⊥) → readingIn m (answer.Typed version kind) ≡ some (byHead m (headIn m))
+    unfolding readingIn byHead
+    by-version h = by-head (answer.Typed version kind) (Typed version kind) e (rw (ne-eqb version 1 h))
 
-      pub lines-all : inLines (drop n m) ≡ true
-      lines-all = sym (loop-inLines m i y w sp n q) ∙ all
+    module _ (one : version ≡ 1) (t : Bool) (says : t ≡ isDescribed kind) where
+      pub by-type : t ≡ false → readingIn m (answer.Typed version kind) ≡ some (byHead m (headIn m))
+      unfolding readingIn byHead
+      by-type f =
+          let g : isDescribed kind ≡ false = sym says ∙ f in
+          by-head (answer.Typed version kind) (Typed version kind) e (rw (eq-eqb version 1 one, g))
 
-pub ruleset lining = (lines-end, lines-none, lines-wrong, lines-more, lines-all)
+      by-lines : t ≡ true → (o : Option Draft) → ended (wholeOf start m) ≡ o → (r : Message) → readingIn m r ≡ some (finish kind o) → readingIn m r ≡ some (byHead m (headIn m))
+      unfolding byHead
+      by-lines f o q r p =
+          let g : isDescribed kind ≡ true = sym says ∙ f in
+          by-head r (Typed version kind) e (rw (eq-eqb version 1 one, g) (p ∙ ap some (finish-by m kind o read-lined q)))
 
--- ---- what the draft of all lines says
-module _ (m : List ℕ) (k : Kind) (y : Step) (o : Option Draft) (is : stepBy m y ≡ o) where
-  pub finish-wrong : y ≡ Wrong → readingIn m (answer.Refused 10) ≡ some (finish k o)
-  unfolding readingIn finish stepBy
-  finish-wrong e = rw (← is, e)
+      pub by-wrong : t ≡ true → ended (wholeOf start m) ≡ none → readingIn m (answer.Refused 10) ≡ some (byHead m (headIn m))
+      unfolding readingIn finish
+      by-wrong f q = by-lines f none q (answer.Refused 10) refl
 
-  module _ (d : DraftPlaces) (e : y ≡ Go d) where
-    pub finish-few : (d .had ≡ 7 → ⊥) → readingIn m (answer.Refused 10) ≡ some (finish k o)
-    unfolding readingIn finish stepBy draftBy
-    finish-few h = rw (← is, e, ne-eqb (d .had) 7 h)
+      pub by-stream : t ≡ true → (a : Address) (s : Places) → ended (wholeOf start m) ≡ some (later a (streamBy m s)) → (r : Places) → KeptInside m s r
+          → readingIn m (answer.Described kind a r) ≡ some (byHead m (headIn m))
+      unfolding readingIn finish later streamIn
+      by-stream f a s q r p =
+          by-lines f (some (later a (streamBy m s))) q (answer.Described kind a r) (rw (p .inside, p .same))
 
-    pub finish-all : d .had ≡ 7 → (s : Places) → KeptInside m (d .stream) s → readingIn m (answer.Described k (d .address) s) ≡ some (finish k o)
-    unfolding readingIn finish stepBy draftBy streamIn
-    finish-all h s p = rw (← is, e, eq-eqb (d .had) 7 h, p .inside, p .same)
+pub ruleset byTypes = (by-untyped, by-version, by-type, by-wrong)
 
-pub ruleset finishing = (finish-wrong, finish-few, finish-all)
+-- ---- behind the ipbcp line, which says h: u says whether what stands there is made of lines
+module _ (m : List ℕ) (h : Head) (from : ℕ) (told : cond (inLines (drop from m)) h Untyped ≡ headIn m) (r : List ℕ) (at : r ≡ drop from m) (u : Bool) (is : u ≡ inLines r) where
+  told-yes : u ≡ true → h ≡ headIn m
+  told-yes e = let k : inLines (drop from m) ≡ true = rw (← at) (sym is ∙ e) in rw k at told
 
--- ---- the whole message; y is its version and type
+  told-no : u ≡ false → Untyped ≡ headIn m
+  told-no e = let k : inLines (drop from m) ≡ false = rw (← at) (sym is ∙ e) in rw k at told
+
+-- no more than version and type is read
+module _ (m : List ℕ) (version : ℕ) (kind : Kind) (from : ℕ) (by : TypeAlone m version kind from) (r : List ℕ) (at : r ≡ drop from m) (u : Bool) (is : u ≡ inLines r) where
+  pub alone-yes : u ≡ true → readingIn m (answer.Typed version kind) ≡ some (byHead m (headIn m))
+  unfolding readingIn
+  alone-yes e = rw (← told-yes m (Typed version kind) from (by .head) r at u is e, by .alone)
+
+  pub alone-no : u ≡ false → readingIn m (answer.Refused 9) ≡ some (byHead m (headIn m))
+  alone-no e = by-untyped m Untyped (told-no m (Typed version kind) from (by .head) r at u is e) refl
+
+pub ruleset alones = (alone-yes, alone-no)
+
+-- a Request or Accepted: y is what the lines there say
+there : (b : Bool) (o : Option Draft) (d : Draft) → ended (cond b o none) ≡ some d → b ≡ true
+unfolding ended
+there true o d e = refl
+there false o d e = absurd (let z : _≡_ {A = ℕ} 0 1 = cc in omega arith)
+
+module _ (m : List ℕ) (kind : Kind) (a : Address) (from : ℕ) (by : Describes m kind a from) (y : Taken) (is : StreamLines m from y) where
+  all-say : ended (wholeOf start m) ≡ laterBy a m y
+  all-say = rw (← by .reached .lines) (sym (is .is a))
+
+  module _ (e : y ≡ TakenWrong) (r : List ℕ) (at : r ≡ drop from m) (u : Bool) (lined : u ≡ inLines r) where
+    pub describe-wrong : u ≡ true → readingIn m (answer.Refused 10) ≡ some (byHead m (headIn m))
+    unfolding laterBy takenBy
+    describe-wrong f =
+        by-wrong m (Typed 1 kind) (told-yes m (Typed 1 kind) from (by .reached .head) r at u lined f) 1 kind refl refl true (sym (by .more)) refl (all-say ∙ rw e)
+
+    pub describe-none : u ≡ false → readingIn m (answer.Refused 9) ≡ some (byHead m (headIn m))
+    describe-none f = by-untyped m Untyped (told-no m (Typed 1 kind) from (by .reached .head) r at u lined f) refl
+
+  pub describe-is : (s : Places) → y ≡ TakenStream s → (r : Places) → KeptInside m s r → readingIn m (answer.Described kind a r) ≡ some (byHead m (headIn m))
+  unfolding wholeOf laterBy takenBy
+  describe-is s e r p =
+      let q : laterBy a m y ≡ some (later a (streamBy m s)) = rw e in
+      let k : inLines (drop from m) ≡ true = there (inLines (drop from m)) _ _ (sym (is .is a) ∙ q) in
+      let t : Typed 1 kind ≡ headIn m = rw k at (by .reached .head) in
+      by-stream m (Typed 1 kind) t 1 kind refl refl true (sym (by .more)) refl a s (all-say ∙ q) r p
+
+pub ruleset describing = (describe-wrong, describe-none, describe-is)
+
+-- by version and type
+module _ (m : List ℕ) (h : Head) (a : Address) (from : ℕ) (by : Reached m h a from) where
+  pub typed-none : h ≡ Untyped → readingIn m (answer.Refused 9) ≡ some (byHead m (headIn m))
+  typed-none e =
+      let z : cond (inLines (drop from m)) Untyped Untyped ≡ headIn m = rw e at (by .head) in
+      by-untyped m Untyped (by-bool (inLines (drop from m)) _ (λ f. rw f at z) (λ f. rw f at z)) refl
+
+  module _ (version : ℕ) (kind : Kind) (e : h ≡ Typed version kind) where
+    pub typed-version : (version ≡ 1 → ⊥) → TypeAlone m version kind from
+    unfolding byHead
+    typed-version f = record { head = rw e at (by .head); alone = rw (ne-eqb version 1 f) }
+
+    module _ (one : version ≡ 1) (t : Bool) (says : t ≡ isDescribed kind) where
+      pub typed-type : t ≡ false → TypeAlone m version kind from
+      unfolding byHead
+      typed-type f =
+          let g : isDescribed kind ≡ false = sym says ∙ f in
+          record { head = rw e at (by .head); alone = rw (eq-eqb version 1 one, g) }
+
+      pub typed-described : t ≡ true → Describes m kind a from
+      typed-described f =
+          let g : h ≡ Typed 1 kind = e ∙ rw one in
+          record { reached = rw g at by; more = sym says ∙ f }
+
+pub ruleset typeds = (typed-none, typed-version, typed-type, typed-described)
+
+-- ---- the whole message
 module _ (m : List ℕ) where
   pub read-long : mostRead < length m → readingIn m (answer.Refused 8) ≡ some (readMessage m)
   unfolding readingIn readMessage
   read-long h = rw (lt-leb (length m) mostRead h)
 
-  module _ (short : length m ≤ mostRead) (y : Head) (is : y ≡ headIn m) where
-    by-length : (r : Message) (x : Head) → y ≡ x → readingIn m r ≡ some (byHead m x) → readingIn m r ≡ some (readMessage m)
-    unfolding readMessage
-    by-length r x e p = rw (le-leb (length m) mostRead short, ← is, e) p
+  pub read-short : length m ≤ mostRead → (r : Message) → readingIn m r ≡ some (byHead m (headIn m)) → readingIn m r ≡ some (readMessage m)
+  unfolding readMessage
+  read-short h r p = rw (le-leb (length m) mostRead h) p
 
-    pub read-untyped : y ≡ Untyped → readingIn m (answer.Refused 9) ≡ some (readMessage m)
-    unfolding readingIn byHead
-    read-untyped e = by-length (answer.Refused 9) Untyped e refl
-
-    module _ (version : ℕ) (kind : Kind) (e : y ≡ Typed version kind) where
-      in-lines : inLines m ≡ true
-      unfolding headIn
-      in-lines =
-          by-bool (inLines m) _
-          (λ h. h)
-          (λ h. let z : Typed version kind ≡ Untyped = sym e ∙ is ∙ rw h in absurd (let o : _≡_ {A = ℕ} 0 1 = cc in omega arith))
-
-      pub read-lined : inLines m ≡ true
-      read-lined = in-lines
-
-      pub read-other : (version ≡ 1 → ⊥) → readingIn m (answer.Typed version kind) ≡ some (readMessage m)
-      unfolding readingIn byHead
-      read-other h = by-length (answer.Typed version kind) (Typed version kind) e (rw (ne-eqb version 1 h))
-
-      module _ (one : version ≡ 1) (t : Bool) (says : t ≡ isDescribed kind) where
-        pub read-typed : t ≡ false → readingIn m (answer.Typed version kind) ≡ some (readMessage m)
-        unfolding readingIn byHead
-        read-typed f =
-            let g : isDescribed kind ≡ false = sym says ∙ f in
-            by-length (answer.Typed version kind) (Typed version kind) e (rw (eq-eqb version 1 one, g))
-
-        pub read-described : t ≡ true → (r : Message) → readingIn m r ≡ some (finish kind (linesOf start (lines m))) → readingIn m r ≡ some (readMessage m)
-        unfolding byHead
-        read-described f r p =
-            let g : isDescribed kind ≡ true = sym says ∙ f in
-            by-length r (Typed version kind) e (rw (eq-eqb version 1 one, g) p)
-
-pub ruleset reading = (read-long, read-untyped, read-other, read-typed, read-described)
+pub ruleset reading = (read-long, read-short)

@@ -1,6 +1,6 @@
 -- Laws of the version and the type: each line that is no ipbcp line leaves the first one to the lines behind it.
 -- Assumes nothing.
-use Prim.Native.Nat.{ℕ, _-_, _≤_, _<_}
+use Prim.Native.Nat.{ℕ, _+_, _-_, _≤_, _<_}
 use mathlib.Core.Path.{_≡_, refl, sym, ap, _∙_}
 use mathlib.Core.List.{List, [], _∷_}
 use mathlib.Core.Bool.{Bool, true, false, cond}
@@ -14,59 +14,61 @@ use Rattle.octets.specs.declared.Number.the-variants.{Value, Bad}
 use Rattle.octets.specs.Decimal.{readNumber, onNumber}
 use Rattle.octets.specs.Spans.{textOf}
 use Rattle.octets.specs.Words.{begins}
+use Rattle.octets.proofs.CaseLaws.{by-bool}
 use Rattle.octets.proofs.Laws.{tail-is}
-use Rattle.texts.specs.Tokens.{token, tokenCount}
-use Rattle.texts.proofs.TokenLaws.{tokens-are, tokens-arent}
+use Rattle.texts.specs.Tokens.{token}
+use Rattle.texts.specs.declared.Two.{Two}
+use Rattle.texts.specs.declared.Two.the-variants as two
+use Rattle.texts.specs.Lengths.{tokensOf, twoBy}
+use Rattle.texts.proofs.LengthLaws.{two-isnt, two-count, two-first, two-second}
 use Rattle.sdp.specs.declared.Line.{Line}
 use Rattle.sdp.specs.declared.Line.the-variants.{Text, NoLine}
 use Rattle.sdp.specs.Lines.{inLines}
 use Rattle.sdp.specs.Cut.{firstLine, lineIn}
 use Rattle.sdp.proofs.CutLaws.{loop-lines, loop-inLines, loop-none, loop-end}
+use Rattle.description.specs.Meaning.{isIpbcp}
 use Rattle.ipbcp.specs.declared.Kind.{Kind}
 use Rattle.ipbcp.specs.declared.Word.{Word}
 use Rattle.ipbcp.specs.declared.Word.the-variants.{Known, Unknown}
 use Rattle.ipbcp.specs.declared.Head.{Head}
 use Rattle.ipbcp.specs.declared.Head.the-variants.{Typed, Untyped}
-use Rattle.ipbcp.specs.Types.{ipbcpStart, kindOf, headOf, withoutBlank, firstHead, headIn}
+use Rattle.ipbcp.specs.Types.{kindOf, headOf, withoutBlank, firstHead, headIn}
 use Rattle.ipbcp.specs.Meaning.{wordIn}
 
--- ---- a version and a type: k tokens are counted, of which a and b are the first two
-module _ (s a : List ℕ) (k : ℕ) (count : k ≡ tokenCount s) where
-  pub head-few : (k ≡ 2 → ⊥) → Untyped ≡ headOf s
+-- ---- a version and a type: y is the cut into two tokens
+module _ (s : List ℕ) (y : Two) (cut : twoBy s y ≡ tokensOf 2 s) where
+  pub head-few : y ≡ two.Other → Untyped ≡ headOf s
   unfolding headOf
-  head-few h = rw (tokens-arent k 2 s count h)
+  head-few e = rw (two-isnt s y cut e)
 
-  module _ (two : k ≡ 2) (first : a ≡ token 0 s) (y : Number) (is : y ≡ readNumber a) where
-    number : y ≡ readNumber (token 0 s)
-    number = rw (← first) is
+  module _ (a : ℕ) (q : y ≡ two.Lengths a) (x : List ℕ) (first : x ≡ take a s) (z : Number) (is : z ≡ readNumber x) where
+    number : (w : Number) → z ≡ w → readNumber (token 0 s) ≡ w
+    number w e = rw (two-first s y cut a q, ← first) (sym is ∙ e)
 
-    pub head-bad-number : y ≡ Bad → Untyped ≡ headOf s
+    pub head-bad-number : z ≡ Bad → Untyped ≡ headOf s
     unfolding headOf onNumber
-    head-bad-number e = let q : readNumber (token 0 s) ≡ Bad = sym number ∙ e in rw (tokens-are k 2 s count two, q)
+    head-bad-number e = rw (two-count s y cut a q, number Bad e)
 
-    module _ (n : ℕ) (e : y ≡ Value n) where
-      value : readNumber (token 0 s) ≡ Value n
-      value = sym number ∙ e
-
+    module _ (n : ℕ) (e : z ≡ Value n) where
       pub head-large : 255 < n → Untyped ≡ headOf s
       unfolding headOf onNumber
-      head-large h = rw (tokens-are k 2 s count two, value, lt-leb n 255 h)
+      head-large h = rw (two-count s y cut a q, number (Value n) e, lt-leb n 255 h)
 
-      module _ (small : n ≤ 255) (b : List ℕ) (second : b ≡ token 1 s) (w : Word) (word : wordIn w ≡ kindOf b) where
-        kind : wordIn w ≡ kindOf (token 1 s)
-        kind = rw (← second) word
+      module _ (small : n ≤ 255) (b : List ℕ) (second : b ≡ drop (a + 1) s) (w : Word) (word : wordIn w ≡ kindOf b) where
+        kind : kindOf (token 1 s) ≡ wordIn w
+        kind = rw (two-second s y cut a q, ← second) (sym word)
 
         pub head-unknown : w ≡ Unknown → Untyped ≡ headOf s
         unfolding headOf onNumber wordIn Option·elim
         head-unknown u =
-            let q : kindOf (token 1 s) ≡ none = sym kind ∙ ap wordIn u in
-            rw (tokens-are k 2 s count two, value, le-leb n 255 small, q)
+            let k : kindOf (token 1 s) ≡ none = kind ∙ ap wordIn u in
+            rw (two-count s y cut a q, number (Value n) e, le-leb n 255 small, k)
 
         pub head-known : (d : Kind) → w ≡ Known d → Typed n d ≡ headOf s
         unfolding headOf onNumber wordIn Option·elim
         head-known d u =
-            let q : kindOf (token 1 s) ≡ some d = sym kind ∙ ap wordIn u in
-            rw (tokens-are k 2 s count two, value, le-leb n 255 small, q)
+            let k : kindOf (token 1 s) ≡ some d = kind ∙ ap wordIn u in
+            rw (two-count s y cut a q, number (Value n) e, le-leb n 255 small, k)
 
 pub ruleset typing = (head-few, head-bad-number, head-large, head-unknown, head-known)
 
@@ -89,6 +91,16 @@ blank-no (b ∷ bs) h e = rw (ne-eqb b 32 e)
 pub ruleset blanks = (blank-none, blank-yes, blank-no)
 
 -- ---- the walk to the ipbcp line: y is the line at i
+module _ (m : List ℕ) (i : ℕ) (y : Line) (w : lineIn m y ≡ some (firstLine (drop i m))) (letter : ℕ) (value : Span) (n : ℕ) (q : y ≡ Text letter value n) where
+  -- the ipbcp line says version and type, if lines stand after it; another line leaves them to those
+  pub head-moved : headIn (drop i m)
+      ≡ cond (isIpbcp letter (textOf m value)) (cond (inLines (drop n m)) (headOf (withoutBlank (drop 6 (textOf m value)))) Untyped) (headIn (drop n m))
+  unfolding headIn firstHead isIpbcp begins
+  head-moved =
+      by-bool (isIpbcp letter (textOf m value)) _
+      (λ h. rw (loop-inLines m i y w letter value n q, loop-lines m i y w letter value n q, h))
+      (λ h. rw (loop-inLines m i y w letter value n q, loop-lines m i y w letter value n q, h))
+
 module _ (m : List ℕ) (i : ℕ) (x : Head) (inv : headIn (drop i m) ≡ x) where
   pub head-end : length m ≤ i → Untyped ≡ x
   unfolding headIn firstHead
@@ -103,29 +115,25 @@ module _ (m : List ℕ) (i : ℕ) (x : Head) (inv : headIn (drop i m) ≡ x) whe
     unfolding headIn
     head-none q h = rw (loop-none m i y w q h) at inv
 
-    -- its text is s, and t says whether it is the ipbcp line
-    module _ (sp : Span) (n : ℕ) (q : y ≡ Text sp n) (s : List ℕ) (at : s ≡ textOf m sp) (t : Bool) (is : t ≡ begins ipbcpStart s) where
+    -- its value is s, and t says whether it is the ipbcp line
+    module _ (letter : ℕ) (value : Span) (n : ℕ) (q : y ≡ Text letter value n) (s : List ℕ) (at : s ≡ textOf m value) (t : Bool) (is : t ≡ isIpbcp letter s) where
+      ipbcp : (b : Bool) → t ≡ b → isIpbcp letter (textOf m value) ≡ b
+      ipbcp b e = rw (← at) (sym is ∙ e)
+
       pub head-more : t ≡ false → headIn (drop n m) ≡ x
-      unfolding headIn firstHead
-      head-more e =
-          let f : begins ipbcpStart (textOf m sp) ≡ false = rw (← at) (sym is ∙ e) in
-          rw (loop-lines m i y w sp n q, loop-inLines m i y w sp n q, f) at inv
+      head-more e = sym (head-moved m i y w letter value n q ∙ rw (ipbcp false e)) ∙ inv
 
-      -- what is behind it is r, and u says whether it is made of lines
-      module _ (r : List ℕ) (behind : r ≡ drop n m) (u : Bool) (rest : u ≡ inLines r) (e : t ≡ true) where
+      -- what is after it is r, and u says whether it is made of lines
+      module _ (r : List ℕ) (rest : r ≡ drop n m) (u : Bool) (lined : u ≡ inLines r) (e : t ≡ true) where
+        said : cond u (headOf (withoutBlank (drop 6 s))) Untyped ≡ x
+        said =
+            let z : inLines (drop n m) ≡ u = rw (← rest) (sym lined) in
+            rw at (sym (head-moved m i y w letter value n q ∙ rw (ipbcp true e, z)) ∙ inv)
+
         pub head-bad : u ≡ false → Untyped ≡ x
-        unfolding headIn
-        head-bad b =
-            let z : inLines (drop n m) ≡ false = rw (← behind) (sym rest ∙ b) in
-            rw (loop-inLines m i y w sp n q, z) at inv
+        head-bad b = rw b at said
 
-        pub head-found : u ≡ true → (a c : List ℕ) → a ≡ drop (length ipbcpStart) s → c ≡ withoutBlank a → (h : Head) → h ≡ headOf c → h ≡ x
-        unfolding headIn firstHead
-        head-found b a c da dc h d =
-            let f : begins ipbcpStart (textOf m sp) ≡ true = rw (← at) (sym is ∙ e) in
-            let z : inLines (drop n m) ≡ true = rw (← behind) (sym rest ∙ b) in
-            let v : headOf (withoutBlank (drop (length ipbcpStart) (textOf m sp))) ≡ x = rw (loop-lines m i y w sp n q, loop-inLines m i y w sp n q, z, f) at inv in
-            let g : headOf c ≡ headOf (withoutBlank (drop (length ipbcpStart) (textOf m sp))) = rw (dc, da, at) in
-            d ∙ g ∙ v
+        pub head-found : u ≡ true → (h : Head) → h ≡ headOf (withoutBlank (drop 6 s)) → h ≡ x
+        head-found b h d = d ∙ (rw b at said)
 
 pub ruleset heads = (head-end, head-none, head-more, head-bad, head-found)

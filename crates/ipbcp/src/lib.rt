@@ -2,16 +2,19 @@
 pub mod types;
 
 ghost use mathlib.Core.Path.{_≡_};
-ghost use mathlib.Core.Bool.{true};
-ghost use mathlib.Core.Option.{some};
-ghost use Rattle.sdp.specs.Lines.{lines, inLines};
+ghost use mathlib.Core.Option.{none, some};
 ghost use Rattle.description.specs.Draft.{start};
-ghost use Rattle.description.specs.Meaning.{stepBy};
-ghost use Rattle.ipbcp.specs.Reading.{linesOf, finish, isDescribed, readMessage};
+ghost use Rattle.ipbcp.specs.Types.{headIn};
+ghost use Rattle.ipbcp.specs.Reading.{isDescribed, byHead, readMessage};
+ghost use Rattle.ipbcp.specs.Whole.{wholeOf, ended, LaterLines, MediaLines, StreamLines, Reached, TypeAlone, Describes};
 ghost use Rattle.ipbcp.specs.Meaning.{readingIn};
 use address::Address;
-use description::Step;
+use description::Extended;
 use media::Stream;
+use media::Taken;
+use octets::Span;
+use octets::spans::after;
+use octets::spans::text;
 use sdp::Line;
 
 // The longest message that is read.
@@ -62,45 +65,64 @@ pub enum Body {
     Rejected,
 }
 
-// What the lines of m say.
-fn read_lines(m: &[u8]) -> Step
-    requires { ⌜ inLines (now m) ≡ true ⌝ }
-    ensures { λ r. ⌜ stepBy (now (m .entry)) r ≡ linesOf start (lines (now (m .entry))) ⌝ }
+// The stream s with the lines of m from `from` on, which stand after its media line.
+fn later_lines(s: Stream, m: &[u8], from: usize) -> Taken
+    ensures { λ r. ⌜ LaterLines (now (m .entry)) s from r ⌝ }
 {
-    let mut d = description::start();
-    let mut i = 0;
+    let mut stream = s;
+    let mut i = from;
     while i < m.len() {
-        let Line::Text { text, next } = sdp::next_line(m, i) else {
-            return Step::Wrong;
+        let Line::Text {
+            letter,
+            value,
+            next,
+        } = sdp::next_line(m, i)
+        else {
+            return Taken::Wrong;
         };
-        let Step::Go(more) = description::read_line(d, m, text) else {
-            return Step::Wrong;
+        let Taken::Stream(more) = description::later_line(stream, m, letter, value) else {
+            return Taken::Wrong;
         };
-        d = more;
+        stream = more;
         i = next;
     }
-    Step::Go(d)
+    Taken::Stream(stream)
 }
 
-// Reads all of a Request or Accepted of version 1.
-fn describe(m: &[u8], kind: Kind) -> Message
-    requires { ⌜ inLines (now m) ≡ true ⌝ }
-    ensures { λ r. ⌜ readingIn (now (m .entry)) r ≡ some (finish kind (linesOf start (lines (now (m .entry))))) ⌝ }
+// The stream of the media line whose value is the text of v in m, with the lines from `from` on after it.
+fn media_lines(m: &[u8], v: Span, from: usize) -> Taken
+    ensures { λ r. ⌜ MediaLines (now (m .entry)) v from r ⌝ }
 {
-    let Step::Go(d) = read_lines(m) else {
-        return Message::Refused(10);
+    let Taken::Stream(s) = media::read_media(m, v) else {
+        return Taken::Wrong;
     };
-    let had = d.had;
-    if had == 7 {
-        let address = d.address;
-        let stream = media::inside::keep_inside(d.stream, m);
-        return Message::Described {
-            kind,
-            address,
-            stream,
+    later_lines(s, m, from)
+}
+
+// The stream of the lines of m from `from` on, which stand after the ipbcp line.
+fn read_stream(m: &[u8], from: usize) -> Taken
+    ensures { λ r. ⌜ StreamLines (now (m .entry)) from r ⌝ }
+{
+    let mut i = from;
+    while i < m.len() {
+        let Line::Text {
+            letter,
+            value,
+            next,
+        } = sdp::next_line(m, i)
+        else {
+            return Taken::Wrong;
         };
+        if letter == b'm' {
+            return media_lines(m, value, next);
+        }
+        if description::is_skipped(letter, text(m, value)) {
+            i = next;
+        } else {
+            return Taken::Wrong;
+        }
     }
-    Message::Refused(10)
+    Taken::Wrong
 }
 
 // A message of this type says more than its type.
@@ -115,13 +137,11 @@ fn is_described(kind: Kind) -> bool
     }
 }
 
-// What m says.
-pub fn read(m: &[u8]) -> Message
-    ensures { λ r. ⌜ readingIn (now (m .entry)) r ≡ some (readMessage (now (m .entry))) ⌝ }
+// The answer to m, of whose lines one is wrong or missing: version and type say which number refuses it.
+fn refuse(m: &[u8]) -> Message
+    requires { ⌜ ended (wholeOf start (now m)) ≡ none ⌝ }
+    ensures { λ r. ⌜ readingIn (now (m .entry)) r ≡ some (byHead (now (m .entry)) (headIn (now (m .entry)))) ⌝ }
 {
-    if MOST_READ < m.len() {
-        return Message::Refused(8);
-    }
     let Head::Typed { version, kind } = types::read_head(m) else {
         return Message::Refused(9);
     };
@@ -129,7 +149,97 @@ pub fn read(m: &[u8]) -> Message
         return Message::Typed { version, kind };
     }
     if is_described(kind) {
-        return describe(m, kind);
+        return Message::Refused(10);
     }
     Message::Typed { version, kind }
+}
+
+// The answer to m by this version and type alone; the lines from `from` on are looked at for their form.
+fn type_alone(version: u8, kind: Kind, m: &[u8], from: usize) -> Message
+    requires { ⌜ TypeAlone (now m) version kind from ⌝ }
+    ensures { λ r. ⌜ readingIn (now (m .entry)) r ≡ some (byHead (now (m .entry)) (headIn (now (m .entry)))) ⌝ }
+{
+    if sdp::in_lines(after(m, from)) {
+        return Message::Typed { version, kind };
+    }
+    Message::Refused(9)
+}
+
+// The answer to m, a Request or Accepted of version 1, whose lines from `from` on stand after the ipbcp line.
+fn describe(kind: Kind, address: Address, m: &[u8], from: usize) -> Message
+    requires { ⌜ Describes (now m) kind address from ⌝ }
+    ensures { λ r. ⌜ readingIn (now (m .entry)) r ≡ some (byHead (now (m .entry)) (headIn (now (m .entry)))) ⌝ }
+{
+    let Taken::Stream(s) = read_stream(m, from) else {
+        if sdp::in_lines(after(m, from)) {
+            return Message::Refused(10);
+        }
+        return Message::Refused(9);
+    };
+    let stream = media::inside::keep_inside(s, m);
+    Message::Described {
+        kind,
+        address,
+        stream,
+    }
+}
+
+// The answer to m, whose lines before `from` are right; the last of them is the ipbcp line, which says h.
+fn read_typed(h: Head, address: Address, m: &[u8], from: usize) -> Message
+    requires { ⌜ Reached (now m) h address from ⌝ }
+    ensures { λ r. ⌜ readingIn (now (m .entry)) r ≡ some (byHead (now (m .entry)) (headIn (now (m .entry)))) ⌝ }
+{
+    let Head::Typed { version, kind } = h else {
+        return Message::Refused(9);
+    };
+    if version != 1 {
+        return type_alone(version, kind, m, from);
+    }
+    if is_described(kind) {
+        return describe(kind, address, m, from);
+    }
+    type_alone(version, kind, m, from)
+}
+
+// The answer to m, which is not too long.
+fn read_short(m: &[u8]) -> Message
+    ensures { λ r. ⌜ readingIn (now (m .entry)) r ≡ some (byHead (now (m .entry)) (headIn (now (m .entry)))) ⌝ }
+{
+    let mut p = description::start();
+    let mut i = 0;
+    while i < m.len() {
+        let Line::Text {
+            letter,
+            value,
+            next,
+        } = sdp::next_line(m, i)
+        else {
+            return refuse(m);
+        };
+        let t = text(m, value);
+        if description::is_ipbcp(letter, t) {
+            let had = p.had;
+            if had < 5 {
+                return refuse(m);
+            }
+            let address = p.address;
+            return read_typed(types::read_value(t), address, m, next);
+        }
+        let Extended::Go(more) = description::preamble_line(p, letter, t) else {
+            return refuse(m);
+        };
+        p = more;
+        i = next;
+    }
+    refuse(m)
+}
+
+// What m says.
+pub fn read(m: &[u8]) -> Message
+    ensures { λ r. ⌜ readingIn (now (m .entry)) r ≡ some (readMessage (now (m .entry))) ⌝ }
+{
+    if MOST_READ < m.len() {
+        return Message::Refused(8);
+    }
+    read_short(m)
 }

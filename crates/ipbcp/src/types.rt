@@ -1,20 +1,20 @@
 // The version and the type of a message.
 ghost use mathlib.Core.Path.{_≡_};
-ghost use Rattle.octets.specs.Words.{begins};
-ghost use Rattle.ipbcp.specs.Types.{ipbcpStart, kindOf, headOf, withoutBlank, headIn};
+ghost use lib.ListN.{drop};
+ghost use Rattle.ipbcp.specs.Types.{kindOf, headOf, withoutBlank, headIn};
 ghost use Rattle.ipbcp.specs.Meaning.{wordIn};
 use crate::Head;
 use crate::Kind;
 use crate::Word;
 use octets::Number;
 use octets::decimal::read_number;
-use octets::parts::part;
 use octets::spans::after;
 use octets::spans::text;
+use octets::spans::up_to;
 use octets::words::equals;
-use octets::words::starts;
 use sdp::Line;
-use texts::count_tokens;
+use texts::Two;
+use texts::cut_two;
 
 // The type that w names.
 fn read_word(w: &[u8]) -> Word
@@ -39,16 +39,16 @@ fn read_word(w: &[u8]) -> Word
 fn head_of(s: &[u8]) -> Head
     ensures { λ r. ⌜ r ≡ headOf (now (s .entry)) ⌝ }
 {
-    if count_tokens(s) != 2 {
+    let Two::Lengths(a) = cut_two(s) else {
         return Head::Untyped;
-    }
-    let Number::Value(n) = read_number(part(s, 32, 0)) else {
+    };
+    let Number::Value(n) = read_number(up_to(s, a)) else {
         return Head::Untyped;
     };
     if 255 < n {
         return Head::Untyped;
     }
-    let Word::Known(kind) = read_word(part(s, 32, 1)) else {
+    let Word::Known(kind) = read_word(after(s, a + 1)) else {
         return Head::Untyped;
     };
     Head::Typed {
@@ -70,26 +70,31 @@ fn without_blank(s: &[u8]) -> &[u8]
     s
 }
 
-// t begins `a=ipbcp:`.
-fn is_ipbcp(t: &[u8]) -> bool
-    ensures { λ r. ⌜ r ≡ begins ipbcpStart (now (t .entry)) ⌝ }
+// What an ipbcp line says; t is its value.
+pub(crate) fn read_value(t: &[u8]) -> Head
+    ensures { λ r. ⌜ r ≡ headOf (withoutBlank (drop 6 (now (t .entry)))) ⌝ }
 {
-    starts(b"a=ipbcp:", t)
+    head_of(without_blank(after(t, 6)))
 }
 
-// The version and the type of m. Lines behind the ipbcp line are looked at for their form alone.
+// The version and the type of m. Lines after the ipbcp line are looked at for their form alone.
 pub fn read_head(m: &[u8]) -> Head
     ensures { λ r. ⌜ r ≡ headIn (now (m .entry)) ⌝ }
 {
     let mut i = 0;
     while i < m.len() {
-        let Line::Text { text: sp, next } = sdp::next_line(m, i) else {
+        let Line::Text {
+            letter,
+            value,
+            next,
+        } = sdp::next_line(m, i)
+        else {
             return Head::Untyped;
         };
-        let t = text(m, sp);
-        if is_ipbcp(t) {
+        let t = text(m, value);
+        if description::is_ipbcp(letter, t) {
             if sdp::in_lines(after(m, next)) {
-                return head_of(without_blank(after(t, 8)));
+                return read_value(t);
             }
             return Head::Untyped;
         }

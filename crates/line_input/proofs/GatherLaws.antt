@@ -1,18 +1,17 @@
 -- Laws of `gathered` and of the buffer, one for each way that the loop of `gather` can go: each follows from what the next octet does to `before` and to `has`.
 -- Assumes nothing.
-use Prim.Native.Nat.{ℕ, suc, _+_, _-_, _≤_, _<_}
+use Prim.Native.Nat.{ℕ, _+_, _-_, _≤_, _<_, min}
 use mathlib.Core.Path.{_≡_, refl, sym, ap, _∙_}
-use mathlib.Core.List.{List, [], _∷_}
-use mathlib.Core.Bool.{Bool, true, false, _||_, or-true, or-false}
-use lib.ListN.{length, getD, take, drop, set, length-set, drop-of-length-le}
-use lib.Dec.{leb·suc-suc}
-use lib.Seq.{take-nil}
+use mathlib.Core.List.{List}
+use mathlib.Core.Bool.{Bool, true, false, _||_}
+use lib.ListN.{length, take, drop, length-drop}
+use lib.Dec.{ltb}
 use native.Mathlib.Omega.{arith}
-use borrow.Author.Tests.{eq-eqb, ne-eqb, lt-ltb, le-ltb}
-use Rattle.octets.specs.Split.{has, before}
-use Rattle.octets.specs.Append.{appended}
-use Rattle.octets.proofs.Laws.{next, put-nil, put-cons}
-use Rattle.octets.proofs.SplitLaws.{before-here, before-more}
+use borrow.Author.Tests.{lt-ltb, le-ltb, ltb-true, ltb-false}
+use Rattle.octets.specs.Split.{has, before, findAt, Found}
+use Rattle.octets.specs.Append.{appended, nextOf, Appends}
+use Rattle.octets.proofs.CaseLaws.{by-bool}
+use Rattle.octets.proofs.SplitLaws.{take-before, has-before, has-not}
 use Rattle.line_input.specs.declared.Gathered.{Gathered}
 use Rattle.line_input.specs.Gather.{gathered, Gathers}
 
@@ -23,82 +22,60 @@ told n over i ended = record { len = n; over = over; next = i; ended = ended }
 same : (n n′ : ℕ) (o o′ : Bool) (i i′ : ℕ) (e e′ : Bool) → n ≡ n′ → o ≡ o′ → i ≡ i′ → e ≡ e′ → told n o i e ≡ told n′ o′ i′ e′
 same n n′ o o′ i i′ e e′ p q r s = rw (p, q, r, s)
 
--- nothing is left of the part
-g-none : (i free n : ℕ) (over : Bool) → gathered [] i free n over ≡ told n over i false
-unfolding gathered before has
-g-none i free n over = same _ _ _ _ _ _ _ _ (omega arith) (rw (le-ltb free 0 (omega arith)) (or-false over)) (omega arith) refl
+-- c is among s exactly where the part before it is shorter
+has-more : (c : ℕ) (s : List ℕ) → length (before c s) < length s → has c s ≡ true
+has-more c s h = by-bool (has c s) _ (λ e. e) (λ e. absurd (omega (arith, ap length (has-not c s e))))
 
--- the next octet is LF
-g-lf : (b : ℕ) (bs : List ℕ) (i free n : ℕ) (over : Bool) → b ≡ 10 → gathered (b ∷ bs) i free n over ≡ told n over (i + 1) true
-unfolding gathered before has
-g-lf b bs i free n over e =
-    rw (eq-eqb b 10 e)
-    (same _ _ _ _ _ _ _ _ (omega arith) (rw (le-ltb free 0 (omega arith)) (or-false over)) (omega arith) refl)
+has-none : (c : ℕ) (s : List ℕ) → length s ≤ length (before c s) → has c s ≡ false
+has-none c s h = by-bool (has c s) _ (λ e. absurd (omega (arith, has-before c s e))) (λ e. e)
 
--- the next octet is put in the buffer
-g-store : (b : ℕ) (bs : List ℕ) (i free n : ℕ) (over : Bool) → (b ≡ 10 → ⊥) → gathered (b ∷ bs) i (suc free) n over ≡ gathered bs (i + 1) free (n + 1) over
-unfolding gathered before has
-g-store b bs i free n over e =
-    rw (ne-eqb b 10 e)
-    (same _ _ _ _ _ _ _ _ (omega arith) (ap (λ (z : Bool). over || z) (leb·suc-suc (suc free) (length (before 10 bs)))) (omega arith) refl)
+by-lt : (a b : ℕ) (X : Type 0) → (a < b → X) → (b ≤ a → X) → X
+by-lt a b X f g = by-bool (ltb a b) X (λ e. f (ltb-true a b e)) (λ e. g (ltb-false a b e))
 
--- the next octet finds no room
-g-skip : (b : ℕ) (bs : List ℕ) (i n : ℕ) (over : Bool) → (b ≡ 10 → ⊥) → gathered (b ∷ bs) i 0 n over ≡ gathered bs (i + 1) 0 n true
-unfolding gathered before has
-g-skip b bs i n over e =
-    rw (ne-eqb b 10 e)
-    (same _ _ _ _ _ _ _ _ (omega arith) (rw (lt-ltb 0 (suc (length (before 10 bs))) (omega arith)) (or-true over)) (omega arith) refl)
+-- ---- the call: e is where the first LF is, and the octets before it were appended
+module _ (s l f d v : List ℕ) (from n e r : ℕ) (at : Found s 10 from e) (rest : d ≡ drop from s) (cuts : v ≡ take (e - from) d) (adds : Appends l n v r f) where
+  abbrev p : List ℕ
+  p = before 10 (drop from s)
 
--- What is left of the part s stands at i, and n octets are in the buffer, which has l. The call was `gather(s, from, l₀, n₀, over₀)`.
-module _ (s l l₀ : List ℕ) (i n from n₀ : ℕ) (over over₀ : Bool)
-    (inv : gathered (drop i s) i (length l - n) n over ≡ gathered (drop from s) from (length l₀ - n₀) n₀ over₀)
-    (buf : appended l n (before 10 (drop i s)) ≡ appended l₀ n₀ (before 10 (drop from s))) where
-  pub at-none : length s ≤ i → Gathers s from l₀ n₀ over₀ (told n over i false) l
-  unfolding appended before
-  at-none h =
-      record {
-        answers = sym (g-none i (length l - n) n over) ∙ ap (λ (z : List ℕ). gathered z i (length l - n) n over) (sym (drop-of-length-le s h)) ∙ inv;
-        leaves = sym (put-nil l n) ∙ rw (drop-of-length-le s h, take-nil) at buf;
-      }
+  long : length p ≡ e - from
+  unfolding findAt
+  long = omega (arith, at .is)
 
-  here : i < length s → gathered (getD s i 0 ∷ drop (i + 1) s) i (length l - n) n over ≡ gathered (drop from s) from (length l₀ - n₀) n₀ over₀
-  here h = ap (λ (z : List ℕ). gathered z i (length l - n) n over) (sym (next s i h)) ∙ inv
+  cut : v ≡ p
+  cut = cuts ∙ rw (rest, ← long) (take-before 10 (drop from s))
 
-  here-f : i < length s → appended l n (before 10 (getD s i 0 ∷ drop (i + 1) s)) ≡ appended l₀ n₀ (before 10 (drop from s))
-  here-f h = ap (λ (z : List ℕ). appended l n (before 10 z)) (sym (next s i h)) ∙ buf
+  stored : r ≡ n + min (length l - n) (length p)
+  unfolding nextOf
+  stored = adds .next ∙ rw cut
 
-  pub at-lf : i < length s → getD s i 0 ≡ 10 → Gathers s from l₀ n₀ over₀ (told n over (i + 1) true) l
-  unfolding appended
-  at-lf h e =
-      record {
-        answers = sym (g-lf (getD s i 0) (drop (i + 1) s) i (length l - n) n over e) ∙ here h;
-        leaves = sym (put-nil l n) ∙ rw (before-here 10 (getD s i 0) (drop (i + 1) s) e, take-nil) at here-f h;
-      }
+  pub low : n ≤ r
+  low = omega (arith, stored)
 
-  pub at-store : i < length s → (getD s i 0 ≡ 10 → ⊥) → n < length l
-      → gathered (drop (i + 1) s) (i + 1) (length (set l n (getD s i 0)) - (n + 1)) (n + 1) over ≡ gathered (drop from s) from (length l₀ - n₀) n₀ over₀
-  at-store h e k =
-      let free : length l - n ≡ suc (length l - (n + 1)) = omega arith in
-      rw length-set (sym (g-store (getD s i 0) (drop (i + 1) s) i (length l - (n + 1)) n over e) ∙ rw free at here h)
+  module _ (over o : Bool) (is : o ≡ (over || ltb (r - n) (e - from))) where
+    same-test : ltb (r - n) (e - from) ≡ ltb (length l - n) (length p)
+    same-test = by-lt (length l - n) (length p) _
+        (λ h. lt-ltb (r - n) (e - from) (omega (arith, stored, long)) ∙ sym (lt-ltb (length l - n) (length p) h))
+        (λ h. le-ltb (r - n) (e - from) (omega (arith, stored, long)) ∙ sym (le-ltb (length l - n) (length p) h))
 
-  pub at-store-f : i < length s → (getD s i 0 ≡ 10 → ⊥) → n < length l → appended (set l n (getD s i 0)) (n + 1) (before 10 (drop (i + 1) s)) ≡ appended l₀ n₀ (before 10 (drop from s))
-  unfolding appended
-  at-store-f h e k =
-      let b = getD s i 0 in
-      let bs = drop (i + 1) s in
-      let free : length l - n ≡ suc (length l - (n + 1)) = omega arith in
-      rw length-set (sym (put-cons l n b (take (length l - (n + 1)) (before 10 bs)) k) ∙ rw (before-more 10 b bs e, free) at here-f h)
+    left : f ≡ appended l n p
+    left = adds .leaves ∙ rw cut
 
-  pub at-skip : i < length s → (getD s i 0 ≡ 10 → ⊥) → length l ≤ n
-      → gathered (drop (i + 1) s) (i + 1) (length l - n) n true ≡ gathered (drop from s) from (length l₀ - n₀) n₀ over₀
-  at-skip h e k =
-      let free : length l - n ≡ 0 = omega arith in
-      rw free (sym (g-skip (getD s i 0) (drop (i + 1) s) i n over e) ∙ rw free at here h)
+    pub with-lf : e < length s → Gathers s from l n over (told r o (e + 1) true) f
+    unfolding gathered
+    with-lf h =
+        let k : has 10 (drop from s) ≡ true = has-more 10 (drop from s) (omega (arith, long, at .low, length-drop from s)) in
+        record {
+          answers = rw k (same _ _ _ _ _ _ _ _ stored (is ∙ ap (λ (z : Bool). over || z) same-test) (omega (arith, long, at .low)) refl);
+          leaves = left;
+        }
 
-  pub at-skip-f : i < length s → (getD s i 0 ≡ 10 → ⊥) → length l ≤ n → appended l n (before 10 (drop (i + 1) s)) ≡ appended l₀ n₀ (before 10 (drop from s))
-  unfolding appended
-  at-skip-f h e k =
-      let free : length l - n ≡ 0 = omega arith in
-      rw free (rw free at here-f h)
+    pub without-lf : length s ≤ e → Gathers s from l n over (told r o e false) f
+    unfolding gathered
+    without-lf h =
+        let k : has 10 (drop from s) ≡ false = has-none 10 (drop from s) (omega (arith, long, at .low, length-drop from s)) in
+        record {
+          answers = rw k (same _ _ _ _ _ _ _ _ stored (is ∙ ap (λ (z : Bool). over || z) same-test) (omega (arith, long, at .low)) refl);
+          leaves = left;
+        }
 
-pub ruleset gathering = (at-none, at-lf, at-store, at-store-f, at-skip, at-skip-f)
+pub ruleset gathering = (low, with-lf, without-lf)

@@ -1,4 +1,5 @@
 -- The laws of `gather`, and of any chain of its calls.
 -- Assumes nothing.
+pub mod FindLaws
 pub mod GatherLaws
 pub mod WholeLaws

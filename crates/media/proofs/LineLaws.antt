@@ -1,39 +1,37 @@
 -- Laws of reading a media line and its attributes: what the code's tests leave, in their order, gives the definition's tests
 -- their values, and a stored span stands for the text that the definition has.
 -- Assumes nothing.
-use Prim.Native.Nat.{ℕ, _≤_}
+use Prim.Native.Nat.{ℕ, _+_, _≤_}
 use mathlib.Core.Path.{_≡_, sym, ap, _∙_, refl}
 use mathlib.Core.List.{List, [], _∷_, _++_}
 use mathlib.Core.Bool.{Bool, true, false}
 use mathlib.Core.Option.{Option, some}
-use lib.ListN.{length, drop}
+use lib.ListN.{length, take, drop}
+use lib.Seq.{drop-drop}
 use lib.Dec.{eqb, ltb}
 use native.Mathlib.Omega.{arith}
-use borrow.Author.Tests.{eqb-true, eqb-false, lt-ltb, le-ltb, le-leb, eq-eqb, ne-eqb}
+use borrow.Author.Tests.{eqb-true, eqb-false, lt-ltb, le-ltb, le-leb, eq-eqb}
 use Rattle.octets.specs.declared.Span.{Span}
 use Rattle.octets.specs.declared.Number.{Number}
 use Rattle.octets.specs.declared.Number.the-variants.{Value}
 use Rattle.octets.specs.Decimal.{readNumber, onNumber}
 use Rattle.octets.specs.Spans.{textOf}
 use Rattle.octets.specs.Words.{begins}
-use Rattle.texts.specs.Tokens.{token, tokenCount, behindBlank}
+use Rattle.texts.specs.Tokens.{token, behindBlank}
+use Rattle.texts.specs.declared.Four.{Four}
+use Rattle.texts.specs.declared.Four.the-variants as four
+use Rattle.texts.specs.Lengths.{tokensOf, fourBy}
+use Rattle.texts.proofs.LengthLaws.{four-isnt, four-count, four-first, four-second, four-third, four-fourth}
 use Rattle.media.specs.declared.Texts.{Texts}
 use Rattle.media.specs.declared.Stream.{Stream as Places}
+use Rattle.media.specs.declared.Taken.{Taken}
 use Rattle.media.specs.declared.Taken.the-variants.{Stream as TakenStream, Wrong}
 use Rattle.media.specs.Stream.{Stream, bareStream, rtpmapWord, fmtpWord, ptimeWord}
 use Rattle.media.specs.Attributes.{fitting, withRtpmap, withFmtp, mediaOf, rtpmapOf, fmtpOf, ptimeOf, attributeOf}
-use Rattle.media.specs.Meaning.{spansOf, textsBy, streamBy, takenBy, barePlaces}
+use Rattle.media.specs.Meaning.{spansOf, textsBy, streamBy, mediaBy, takenBy, barePlaces}
 use Rattle.media.proofs.TextsLaws.{map-snoc}
 
 -- ---- the media line
--- n, the number of tokens, against that of a media line
-module _ (n : ℕ) (t : List ℕ) (e : n ≡ tokenCount t) where
-  pub four : n ≡ 4 → eqb (tokenCount t) 4 ≡ true
-  four h = rw (← e) (eq-eqb n 4 h)
-
-  pub not-four : (n ≡ 4 → ⊥) → eqb (tokenCount t) 4 ≡ false
-  not-four h = rw (← e) (ne-eqb n 4 h)
-
 -- what a stream without attributes says
 pub bare-says : (m : List ℕ) (sp r : Span) (port payload : ℕ) → streamBy m (barePlaces sp port r payload) ≡ bareStream (textOf m sp) port (textOf m r) payload
 unfolding streamBy textsBy spansOf textOf
@@ -44,14 +42,31 @@ pub media-stored : (m : List ℕ) (sp r : Span) (a b : List ℕ) (port payload :
     → streamBy m y ≡ bareStream a port b payload
 media-stored m sp r a b port payload y e p q = rw (e, ← p, ← q) (bare-says m sp r port payload)
 
--- a media line with its four tokens, and its stream y
-pub media-read : (m t : List ℕ) (n : ℕ) (z w : Number) (port payload : ℕ) (y : Places)
-    → streamBy m y ≡ bareStream (token 0 t) port (token 2 t) payload → 1 ≤ port → payload ≤ 127
-    → z ≡ readNumber (token 1 t) → z ≡ Value port → w ≡ readNumber (token 3 t) → w ≡ Value payload → n ≡ tokenCount t → n ≡ 4
-    → takenBy m (TakenStream y) ≡ mediaOf t
-unfolding mediaOf onNumber takenBy
-media-read m t n z w port payload y p l o f g h k c e =
-    rw (four n t c e, ← f, g, ← h, k, le-leb 1 port l, le-leb payload 127 o, p)
+-- by its four tokens: z is what the port's text was read as, and w the payload's
+module _ (m a b c d : List ℕ) (z w : Number) (port payload : ℕ) (y : Places) where
+  pub media-read : z ≡ readNumber b → z ≡ Value port → w ≡ readNumber d → w ≡ Value payload → 1 ≤ port → payload ≤ 127
+      → streamBy m y ≡ bareStream a port c payload → takenBy m (TakenStream y) ≡ mediaBy a b c d
+  unfolding mediaBy onNumber takenBy
+  media-read f g h k l o p = rw (← f, g, ← h, k, le-leb 1 port l, le-leb payload 127 o, p)
+
+-- y is the cut into four tokens
+module _ (m t : List ℕ) (y : Four) (is : fourBy t y ≡ tokensOf 4 t) where
+  pub media-few : y ≡ four.Other → takenBy m Wrong ≡ mediaOf t
+  unfolding mediaOf takenBy
+  media-few e = rw (four-isnt t y is e)
+
+  -- r stands behind the media, and u behind the port; b and d are the port's text and the payload's
+  pub media-four : (i j k : ℕ) → y ≡ four.Lengths i j k → (r : List ℕ) → r ≡ drop (i + 1) t → (u : List ℕ) → u ≡ drop (j + 1) r
+      → (b : List ℕ) → b ≡ take j r → (d : List ℕ) → d ≡ drop (k + 1) u → (v : Span) → t ≡ textOf m v → (x : Taken)
+      → takenBy m x ≡ mediaBy (textOf (textOf m v) (record { at = 0; len = i })) b (textOf (textOf m v) (record { at = i + 1 + (j + 1); len = k })) d
+      → takenBy m x ≡ mediaOf t
+  unfolding mediaOf mediaBy textOf
+  media-four i j k q r rs u us b bs d ds v at x p =
+      let f : takenBy m x ≡ mediaBy (take i t) b (take k (drop (i + 1 + (j + 1)) t)) d = rw (← at) at p in
+      let g : drop (j + 1) (drop (i + 1) t) ≡ drop (i + 1 + (j + 1)) t = drop-drop (j + 1) (i + 1) t in
+      rw (four-count t y is i j k q, four-first t y is i j k q, four-second t y is i j k q, four-third t y is i j k q, four-fourth t y is i j k q, ← rs, ← us, ← bs, ← ds, us, rs, g) f
+
+pub ruleset medias = (media-few, media-four)
 
 -- ---- the attributes
 -- i, the test for an empty text, where that text is a

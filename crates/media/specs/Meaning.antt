@@ -7,12 +7,13 @@ use mathlib.Core.Option.{Option, none, some}
 use lib.ListN.{take}
 use lib.Dec.{leb}
 use Rattle.octets.specs.declared.Span.{Span}
+use Rattle.octets.specs.Decimal.{readNumber, onNumber}
 use Rattle.octets.specs.Spans.{textOf, inside}
 use Rattle.media.specs.declared.Texts.{Texts}
 use Rattle.media.specs.declared.Stream.{Stream as Places}
 use Rattle.media.specs.declared.Taken.{Taken}
 use Rattle.media.specs.declared.Taken.the-variants.{Stream as TakenStream, Wrong}
-use Rattle.media.specs.Stream.{Stream}
+use Rattle.media.specs.Stream.{Stream, bareStream}
 
 -- the spans that a `Texts` holds
 unfoldable pub spansOf : Texts → List Span
@@ -48,6 +49,13 @@ barePlaces media port transport payload = record {
 unfoldable pub takenBy : List ℕ → Taken → Option Stream
 takenBy m (TakenStream s) = some (streamBy m s)
 takenBy m Wrong = none
+
+-- for a function that is not public: a media line with these four tokens
+unfoldable pub mediaBy : List ℕ → List ℕ → List ℕ → List ℕ → Option Stream
+mediaBy media port transport payload =
+    onNumber (readNumber port)
+    (λ p. onNumber (readNumber payload) (λ n. cond (leb 1 p && leb n 127) (some (bareStream media p transport n)) none) none)
+    none
 
 -- ---- spans that all lie inside their source
 unfoldable pub allIn : List ℕ → List Span → Bool

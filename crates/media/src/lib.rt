@@ -9,18 +9,19 @@ ghost use Rattle.octets.specs.Spans.{textOf};
 ghost use Rattle.texts.specs.Tokens.{token};
 ghost use Rattle.media.specs.Stream.{bareStream};
 ghost use Rattle.media.specs.Attributes.{mediaOf, isAttribute, attributeOf};
-ghost use Rattle.media.specs.Meaning.{streamBy, barePlaces, takenBy};
+ghost use Rattle.media.specs.Meaning.{streamBy, barePlaces, mediaBy, takenBy};
 use octets::Number;
 use octets::Span;
 use octets::decimal::read_number;
 use octets::parts::part;
 use octets::spans::after;
 use octets::spans::text;
+use octets::spans::up_to;
 use octets::words::starts;
-use texts::count_tokens;
+use texts::Four;
+use texts::cut_four;
 use texts::inner;
 use texts::skip;
-use texts::token_span;
 
 // The most octets of rtpmap and fmtp lines together, without their ends.
 pub const MOST_ATTRIBUTES: usize = 256;
@@ -79,22 +80,39 @@ pub(crate) fn token_number(t: &[u8], k: usize) -> Number
     read_number(part(t, 32, k))
 }
 
-// The span in m of the k-th token of t, the text of v in m.
-fn token_place(m: &[u8], v: Span, t: &[u8], k: usize) -> Span
-    requires { ⌜ now t ≡ textOf (now m) v ⌝ }
-    ensures { λ r. ⌜ textOf (now (m .entry)) r ≡ token k (now (t .entry)) ⌝ }
+// The stream of a media line with this port and payload and no attribute yet; media and transport are these parts of the
+// text of v in m.
+fn bare_stream(m: &[u8], v: Span, media: Span, port: u16, transport: Span, payload: u8) -> Stream
+    ensures { λ r. ⌜ streamBy (now (m .entry)) r ≡ bareStream (textOf (textOf (now (m .entry)) v) media) port (textOf (textOf (now (m .entry)) v) transport) payload ⌝ }
 {
-    inner(m, v, token_span(t, k))
+    bare(inner(m, v, media), port, inner(m, v, transport), payload)
 }
 
-// The stream of the media line t, the text of v in m, with this port and payload and no attribute yet.
-fn bare_stream(m: &[u8], v: Span, t: &[u8], port: u16, payload: u8) -> Stream
-    requires { ⌜ now t ≡ textOf (now m) v ⌝ }
-    ensures { λ r. ⌜ streamBy (now (m .entry)) r ≡ bareStream (token 0 (now (t .entry))) port (token 2 (now (t .entry))) payload ⌝ }
+// Reads a media line by its four tokens: the texts of port and payload, and the parts of the text of v in m that are media and
+// transport.
+fn media_tokens(
+    m: &[u8],
+    v: Span,
+    media: Span,
+    port: &[u8],
+    transport: Span,
+    payload: &[u8],
+) -> Taken
+    ensures { λ r. ⌜ takenBy (now (m .entry)) r ≡ mediaBy (textOf (textOf (now (m .entry)) v) media) (now (port .entry)) (textOf (textOf (now (m .entry)) v) transport) (now (payload .entry)) ⌝ }
 {
-    let media = token_place(m, v, t, 0);
-    let transport = token_place(m, v, t, 2);
-    bare(media, port, transport, payload)
+    let Number::Value(p) = read_number(port) else {
+        return Taken::Wrong;
+    };
+    let Number::Value(n) = read_number(payload) else {
+        return Taken::Wrong;
+    };
+    if p < 1 {
+        return Taken::Wrong;
+    }
+    if 127 < n {
+        return Taken::Wrong;
+    }
+    Taken::Stream(bare_stream(m, v, media, p, transport, n as u8))
 }
 
 // Reads the media line t, the text of v in m.
@@ -102,22 +120,24 @@ fn media_text(m: &[u8], v: Span, t: &[u8]) -> Taken
     requires { ⌜ now t ≡ textOf (now m) v ⌝ }
     ensures { λ r. ⌜ takenBy (now (m .entry)) r ≡ mediaOf (now (t .entry)) ⌝ }
 {
-    if count_tokens(t) != 4 {
-        return Taken::Wrong;
-    }
-    let Number::Value(port) = token_number(t, 1) else {
+    let Four::Lengths(a, b, c) = cut_four(t) else {
         return Taken::Wrong;
     };
-    let Number::Value(payload) = token_number(t, 3) else {
-        return Taken::Wrong;
+    let media = Span { at: 0, len: a };
+    let behind_media = after(t, a + 1);
+    let transport = Span {
+        at: a + 1 + (b + 1),
+        len: c,
     };
-    if port < 1 {
-        return Taken::Wrong;
-    }
-    if 127 < payload {
-        return Taken::Wrong;
-    }
-    Taken::Stream(bare_stream(m, v, t, port, payload as u8))
+    let behind_port = after(behind_media, b + 1);
+    media_tokens(
+        m,
+        v,
+        media,
+        up_to(behind_media, b),
+        transport,
+        after(behind_port, c + 1),
+    )
 }
 
 // Reads what stands behind `m=`, which is the text of v in m.

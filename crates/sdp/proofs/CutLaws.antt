@@ -108,30 +108,30 @@ inLines-none s q l =
     (λ h. rw (ended-not s h l))
 
 -- ---- for loops over lines: y is what `next_line` answers at i
-told-some : (b : Bool) (x y : Front) → cond b (some x) none ≡ some y → (b ≡ true) × (x ≡ y)
-told-some true x y q = (refl, cc)
+told-some : (b : Bool) (x y : Front) → cond b (some x) none ≡ some y → x ≡ y
+told-some true x y q = cc
 told-some false x y q = let z : _≡_ {A = ℕ} 0 1 = cc in absurd (omega arith)
 
 told-other : (x : Front) → some noLine ≡ some x → x ≡ noLine
 told-other x q = cc
 
 module _ (m : List ℕ) (i : ℕ) (y : Line) (w : lineIn m y ≡ some (firstLine (drop i m))) where
-  module _ (sp : Span) (n : ℕ) (q : y ≡ Text sp n) where
-    front : ((inside m sp && leb n (length m)) ≡ true) × (line (textOf m sp) (drop n m) ≡ firstLine (drop i m))
+  module _ (letter : ℕ) (value : Span) (n : ℕ) (q : y ≡ Text letter value n) where
+    abbrev t : List ℕ
+    t = letter ∷ 61 ∷ textOf m value
+
+    is-first : firstLine (drop i m) ≡ line (letter ∷ 61 ∷ textOf m value) (drop n m)
     unfolding lineIn
-    front = told-some (inside m sp && leb n (length m)) _ _ (rw q at w)
+    is-first = sym (told-some (inside m value && leb n (length m)) _ _ (rw q at w))
 
-    is-first : firstLine (drop i m) ≡ line (textOf m sp) (drop n m)
-    is-first = sym (front .1)
-
-    pub loop-lines : lines (drop i m) ≡ textOf m sp ∷ lines (drop n m)
-    loop-lines = lines-first (drop i m) (textOf m sp) (drop n m) is-first
+    pub loop-lines : lines (drop i m) ≡ (letter ∷ 61 ∷ textOf m value) ∷ lines (drop n m)
+    loop-lines = lines-first (drop i m) t (drop n m) is-first
 
     pub loop-inLines : inLines (drop i m) ≡ inLines (drop n m)
-    loop-inLines = inLines-first (drop i m) (textOf m sp) (drop n m) is-first
+    loop-inLines = inLines-first (drop i m) t (drop n m) is-first
 
     pub loop-falls : length m - n < length m - i
-    loop-falls = omega (arith, rest-less (drop i m) (textOf m sp) (drop n m) is-first, length-drop i m, length-drop n m)
+    loop-falls = omega (arith, rest-less (drop i m) t (drop n m) is-first, length-drop i m, length-drop n m)
 
   pub loop-none : y ≡ NoLine → i < length m → inLines (drop i m) ≡ false
   unfolding lineIn
@@ -146,8 +146,8 @@ loop-ended m i h = rw (drop-of-length-le m h) inLines-nil
 -- `in_lines`, at i: x is its answer
 module _ (m : List ℕ) (i : ℕ) (x : Bool) (inv : inLines (drop i m) ≡ x) where
   module _ (y : Line) (w : lineIn m y ≡ some (firstLine (drop i m))) where
-    pub in-more : (sp : Span) (n : ℕ) → y ≡ Text sp n → inLines (drop n m) ≡ x
-    in-more sp n q = sym (loop-inLines m i y w sp n q) ∙ inv
+    pub in-more : (letter : ℕ) (value : Span) (n : ℕ) → y ≡ Text letter value n → inLines (drop n m) ≡ x
+    in-more letter value n q = sym (loop-inLines m i y w letter value n q) ∙ inv
 
     pub in-none : y ≡ NoLine → i < length m → false ≡ x
     in-none q h = sym (loop-none m i y w q h) ∙ inv

@@ -1,9 +1,7 @@
--- Laws of `plain_length`, `find_end` and `next_line`: what stands there up to the first octet that is not plain is `plainPart`,
+-- Laws of `pass_fours`, `find_end` and `next_line`: what stands there up to the first octet that is not plain is `plainPart`,
 -- and the octets behind it say whether a line ends there.
 -- Assumes nothing.
-use Prim.Native.Nat.{ℕ, suc, _+_, _-_, _^_, _≤_, _<_}
-use mir.Syntax.{w64}
-use mir.Val.{Fits}
+use Prim.Native.Nat.{ℕ, suc, _+_, _-_, _≤_, _<_}
 use mathlib.Core.Path.{_≡_, refl, sym, ap, _∙_}
 use mathlib.Core.List.{List, [], _∷_, _++_, append-nil}
 use mathlib.Core.Bool.{Bool, true, false}
@@ -16,13 +14,13 @@ use lib.Dec.{leb, leb·suc-suc}
 use borrow.Author.Tests.{le-leb, lt-leb}
 use Rattle.octets.specs.Split.{before}
 use Rattle.octets.specs.Spans.{textOf}
-use Rattle.octets.proofs.Laws.{next}
+use Rattle.octets.proofs.Laws.{next, drop-take}
 use Rattle.octets.proofs.SplitLaws.{before-more}
 use Rattle.octets.proofs.CaseLaws.{by-bool}
 use Rattle.sdp.specs.Lines.{isPlain, allPlain, isLine}
-use Rattle.sdp.specs.Cut.{line, noLine, firstLine, lineIn, plainPart, PlainLength, Ends}
+use Rattle.sdp.specs.Cut.{line, noLine, firstLine, lineIn, plainPart, PlainTo, Ends}
 use Rattle.sdp.specs.declared.Line.the-variants.{Text, NoLine}
-use Rattle.sdp.proofs.PlainLaws.{starts, line-start, first-lf, first-crlf, first-open, first-last, first-short, first-start, first-wrong}
+use Rattle.sdp.proofs.PlainLaws.{is-plain, starts, line-start, start-front, first-lf, first-crlf, first-open, first-last, first-short, first-start, first-wrong}
 
 -- ---- `plainPart`
 part-more : (b : ℕ) (bs : List ℕ) → isPlain b ≡ true → plainPart (b ∷ bs) ≡ b ∷ plainPart bs
@@ -66,40 +64,60 @@ part-all (b ∷ bs) =
     (λ e. rw e (lt-leb (suc (length bs)) 0 (omega arith)))
 
 -- all of s is plain where its plain part is as long
-pub plain-all : (s : List ℕ) (n : ℕ) → PlainLength s n → (t : Bool) → t ≡ leb (length s) n → t ≡ allPlain s
-plain-all s n f t p = p ∙ rw (f .is) (part-all s)
+pub plain-all : (s : List ℕ) (n : ℕ) → Ends s 0 n → (t : Bool) → t ≡ leb (length s) n → t ≡ allPlain s
+plain-all s n f t p =
+    let z : n ≡ 0 + length (plainPart (drop 0 s)) = f .is in
+    let k : n ≡ length (plainPart s) = omega arith in
+    p ∙ rw k (part-all s)
 
--- ---- `plain_length`, at n: the octets before n are plain
-module _ (s : List ℕ) (n : ℕ) (inv : n + length (plainPart (drop n s)) ≡ length (plainPart s)) where
-  module _ (h : n < length s) (t : Bool) (p : t ≡ isPlain (getD s n 0)) where
-    pub plain-more : t ≡ true → n + 1 + length (plainPart (drop (n + 1) s)) ≡ length (plainPart s)
-    plain-more q =
-        let k : n + suc (length (plainPart (drop (n + 1) s))) ≡ length (plainPart s) =
-        rw (next s n h, part-more (getD s n 0) (drop (n + 1) s) (sym p ∙ q)) at inv in
-        omega arith
+-- ---- plain octets are passed, from i on
+module _ (m : List ℕ) (i : ℕ) where
+  pub to-start : PlainTo m i i
+  to-start = record { count = refl; low = omega arith; high = omega arith }
 
-    pub plain-found : t ≡ false → PlainLength s n
-    plain-found q =
-        let k : plainPart (drop n s) ≡ [] = rw (next s n h) (part-here (getD s n 0) (drop (n + 1) s) (sym p ∙ q)) in
-        record { is = omega (arith, inv, ap length k); most = omega arith }
+  to-next : (n : ℕ) → PlainTo m i n → n < length m → isPlain (getD m n 0) ≡ true → PlainTo m i (n + 1)
+  to-next n f h e =
+      let k : n + suc (length (plainPart (drop (n + 1) m))) ≡ i + length (plainPart (drop i m)) =
+      rw (next m n h, part-more (getD m n 0) (drop (n + 1) m) e) at (f .count) in
+      record { count = omega arith; low = omega (arith, f .low); high = omega (arith, f .high) }
 
-  pub plain-past : length s ≤ n → n ≤ length s → PlainLength s n
-  unfolding plainPart
-  plain-past h l =
-      let k : plainPart (drop n s) ≡ [] = rw (drop-of-length-le s h) in
-      record { is = omega (arith, inv, ap length k); most = l }
+  -- `find_end`, at n
+  module _ (n : ℕ) (f : PlainTo m i n) where
+    module _ (h : n < length m) (t : Bool) (p : t ≡ isPlain (getD m n 0)) where
+      pub plain-more : t ≡ true → PlainTo m i (n + 1)
+      plain-more q = to-next n f h (sym p ∙ q)
 
-pub ruleset counting = (plain-more, plain-found, plain-past)
+      pub plain-found : t ≡ false → Ends m i n
+      plain-found q =
+          let k : plainPart (drop n m) ≡ [] = rw (next m n h) (part-here (getD m n 0) (drop (n + 1) m) (sym p ∙ q)) in
+          record { is = omega (arith, f .count, ap length k); low = f .low }
 
--- the plain part of what stands at i ends behind i
-module _ (m s : List ℕ) (i n : ℕ) (at : s ≡ drop i m) (f : PlainLength s n) where
-  pub end-at : Ends m i (i + n)
-  end-at = record { is = let z : n ≡ length (plainPart (drop i m)) = rw (← at) (f .is) in omega arith; low = omega arith }
+    pub plain-past : length m ≤ n → Ends m i n
+    unfolding plainPart
+    plain-past h =
+        let k : plainPart (drop n m) ≡ [] = rw (drop-of-length-le m h) in
+        record { is = omega (arith, f .count, ap length k); low = f .low }
 
-  pub end-fits : i < 2 ^ 64 → length m < 2 ^ 64 → Fits w64 (i + n)
-  end-fits p q = omega (arith, f .most, ap (λ (x : List ℕ). length x) at, length-drop i m)
+    -- `pass_fours`, at n
+    module _ (stop : ℕ) (s : stop ≡ length m - 3) (l : n < stop) where
+      module _ (a : 14 ≤ getD m n 0) where
+        pub to-1 : PlainTo m i (n + 1)
+        to-1 = to-next n f (omega arith) (is-plain (getD m n 0) a)
 
-pub ruleset ending = (end-at, end-fits)
+        module _ (b : 14 ≤ getD m (n + 1) 0) where
+          pub to-2 : PlainTo m i (n + 2)
+          to-2 = let z : n + 1 + 1 ≡ n + 2 = omega arith in rw z at (to-next (n + 1) to-1 (omega arith) (is-plain (getD m (n + 1) 0) b))
+
+          module _ (c : 14 ≤ getD m (n + 2) 0) where
+            pub to-3 : PlainTo m i (n + 3)
+            to-3 = let z : n + 2 + 1 ≡ n + 3 = omega arith in rw z at (to-next (n + 2) to-2 (omega arith) (is-plain (getD m (n + 2) 0) c))
+
+            pub to-4 : 14 ≤ getD m (n + 3) 0 → PlainTo m i (n + 4)
+            to-4 d = let z : n + 3 + 1 ≡ n + 4 = omega arith in rw z at (to-next (n + 3) to-3 (omega arith) (is-plain (getD m (n + 3) 0) d))
+
+pub ruleset fours = (to-start, to-1, to-2, to-3, to-4)
+
+pub ruleset ending = (plain-more, plain-found, plain-past)
 
 -- ---- `next_line` at i: e is where the plain part ends
 module _ (m : List ℕ) (i e : ℕ) (f : Ends m i e) where
@@ -158,16 +176,24 @@ module _ (m : List ℕ) (i e : ℕ) (f : Ends m i e) where
         is-line : isLine p ≡ true
         is-line = line-start p (omega (arith, long)) (start ∙ b) plain
 
-        text : textOf m (record { at = i; len = e - i }) ≡ p
+        value : drop 2 p ≡ textOf m (record { at = i + 2; len = e - i - 2 })
         unfolding textOf
-        text = rw (← long) (part-take (drop i m))
+        value =
+            ap (λ (w : List ℕ). drop 2 w) (sym (part-take (drop i m)))
+            ∙ drop-take 2 (length p) (drop i m)
+            ∙ rw (long, drop-drop 2 i m)
+
+        text : p ≡ getD m i 0 ∷ 61 ∷ textOf m (record { at = i + 2; len = e - i - 2 })
+        text =
+            start-front p (omega (arith, long)) (start ∙ b)
+            ∙ rw (octet 0 (omega arith), add-zero i, value)
 
         text-is : (n : ℕ) → n ≤ length m → firstLine (drop i m) ≡ line p (drop n m)
-            → lineIn m (Text (record { at = i; len = e - i }) n) ≡ some (firstLine (drop i m))
+            → lineIn m (Text (getD m i 0) (record { at = i + 2; len = e - i - 2 }) n) ≡ some (firstLine (drop i m))
         unfolding lineIn
-        text-is n g k = rw (le-leb (i + (e - i)) (length m) (omega (arith, f .low)), le-leb n (length m) g, text, k)
+        text-is n g k = rw (le-leb (i + 2 + (e - i - 2)) (length m) (omega (arith, f .low)), le-leb n (length m) g, ← text, k)
 
-        pub cut-lf : getD m e 0 ≡ 10 → lineIn m (Text (record { at = i; len = e - i }) (e + 1)) ≡ some (firstLine (drop i m))
+        pub cut-lf : getD m e 0 ≡ 10 → lineIn m (Text (getD m i 0) (record { at = i + 2; len = e - i - 2 }) (e + 1)) ≡ some (firstLine (drop i m))
         cut-lf d = text-is (e + 1) (omega arith) (ap firstLine at-end ∙ rw d (first-lf p (drop (e + 1) m) is-line))
 
         module _ (c : getD m e 0 ≡ 10 → ⊥) where
@@ -179,7 +205,7 @@ module _ (m : List ℕ) (i e : ℕ) (f : Ends m i e) where
 
           module _ (g : e + 1 < length m) where
             pub cut-crlf : getD m e 0 ≡ 13 → getD m (e + 1) 0 ≡ 10
-                → lineIn m (Text (record { at = i; len = e - i }) (e + 1 + 1)) ≡ some (firstLine (drop i m))
+                → lineIn m (Text (getD m i 0) (record { at = i + 2; len = e - i - 2 }) (e + 1 + 1)) ≡ some (firstLine (drop i m))
             cut-crlf d k =
                 text-is (e + 1 + 1) (omega arith)
                 (ap firstLine at-end ∙ rw (next m (e + 1) g, d, k) (first-crlf p (drop (e + 1 + 1) m) is-line))

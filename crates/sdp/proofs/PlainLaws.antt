@@ -95,6 +95,15 @@ line-start [] s e h = absurd (omega arith)
 line-start (a ∷ []) s e h = absurd (omega arith)
 line-start (a ∷ b ∷ v) s e h = line-parts a b v ∙ rw e (plain-parts b v (plain-parts a (b ∷ v) h .1) .1)
 
+-- they are a letter, '=' and the others
+pub start-front : (p : List ℕ) → 2 ≤ length p → starts (getD p 0 0) (getD p 1 0) ≡ true → p ≡ getD p 0 0 ∷ 61 ∷ drop 2 p
+start-front [] s e = absurd (omega arith)
+start-front (a ∷ []) s e = absurd (omega arith)
+start-front (a ∷ b ∷ v) s e =
+    let f = and-eq-true-iff (leb 97 a) (leb a 122 && eqb b 61) .0 e in
+    let g = and-eq-true-iff (leb a 122) (eqb b 61) .0 (f .1) in
+    rw (eqb-true b 61 (g .1))
+
 line-other : (p w : List ℕ) → 2 ≤ length p → starts (getD p 0 0) (getD p 1 0) ≡ false → isLine (p ++ w) ≡ false
 line-other [] w s e = absurd (omega arith)
 line-other (a ∷ []) w s e = absurd (omega arith)

@@ -1,6 +1,6 @@
 -- One line after another: the line at the front of a text, and what `Line` stands for. `lines` and `inLines` follow from it
 -- (`CutLaws`).
-use Prim.Native.Nat.{ℕ, _+_, _≤_}
+use Prim.Native.Nat.{ℕ, _+_, _≤_, max}
 use mathlib.Core.Path.{_≡_}
 use mathlib.Core.List.{List, [], _∷_}
 use mathlib.Core.Bool.{_&&_, cond}
@@ -26,9 +26,11 @@ firstLine s =
     (line (withoutCr (before 10 s)) (drop (length (before 10 s) + 1) s))
     noLine
 
--- What a `Line` stands for in m: its span lies inside m, and so does the place behind its end.
+-- What a `Line` stands for in m: its letter, `=` (61) and its value. The value lies inside m, and so does the place after
+-- the line's end.
 unfoldable pub lineIn : List ℕ → Line → Option Front
-lineIn m (Text sp next) = cond (inside m sp && leb next (length m)) (some (line (textOf m sp) (drop next m))) none
+lineIn m (Text letter value next) =
+    cond (inside m value && leb next (length m)) (some (line (letter ∷ 61 ∷ textOf m value) (drop next m))) none
 lineIn m NoLine = some noLine
 
 -- For functions that are not public: what of s stands before its first 0, CR or LF.
@@ -36,10 +38,11 @@ unfoldable pub plainPart : List ℕ → List ℕ
 plainPart [] = []
 plainPart (b ∷ bs) = cond (isPlain b) (b ∷ plainPart bs) []
 
--- r is how many octets that has; the bound follows, and is here for callers
-pub record PlainLength (s : List ℕ) (r : ℕ) : Type 0 where
-  pub is : r ≡ length (plainPart s)
-  pub most : r ≤ length s
+-- n stands at i or behind it, and the octets between are plain
+pub record PlainTo (m : List ℕ) (i n : ℕ) : Type 0 where
+  pub count : n + length (plainPart (drop n m)) ≡ i + length (plainPart (drop i m))
+  pub low : i ≤ n
+  pub high : n ≤ max i (length m)
 
 -- r is the place behind that part of what stands at i; the bound follows, and is here for callers
 pub record Ends (m : List ℕ) (i r : ℕ) : Type 0 where

@@ -2,16 +2,20 @@
 ghost use mathlib.Core.Path.{_≡_};
 ghost use mathlib.Core.Bool.{_&&_};
 ghost use mathlib.Core.Option.{some};
-ghost use lib.ListN.{drop};
+ghost use Prim.Native.Nat.{_-_};
+ghost use lib.ListN.{length, drop};
 ghost use lib.Dec.{leb, eqb};
 ghost use Rattle.sdp.specs.Lines.{isPlain, allPlain, inLines};
-ghost use Rattle.sdp.specs.Cut.{firstLine, lineIn, PlainLength, Ends};
+ghost use Rattle.sdp.specs.Cut.{firstLine, lineIn, PlainTo, Ends};
 use octets::Span;
-use octets::spans::after;
 
 pub enum Line {
-    // A line, and where the next one starts.
-    Text { text: Span, next: usize },
+    // A line: its letter, its value (what stands after the `=`), and where the next line starts.
+    Text {
+        letter: u8,
+        value: Span,
+        next: usize,
+    },
     // No line starts there.
     NoLine,
 }
@@ -29,13 +33,47 @@ fn is_plain(b: u8) -> bool
     b != 10
 }
 
-// How many octets of s stand before its first 0, CR or LF.
-fn plain_length(s: &[u8]) -> usize
-    ensures { λ r. ⌜ PlainLength (now (s .entry)) r ⌝ }
+// The first of the last three places of m, and 0 where it has no more.
+fn last_three(m: &[u8]) -> usize
+    ensures { λ r. ⌜ r ≡ length (now (m .entry)) - 3 ⌝ }
 {
-    let mut n = 0;
-    while n < s.len() {
-        let b = s[n];
+    if m.len() < 3 {
+        return 0;
+    }
+    m.len() - 3
+}
+
+// A place at i or behind it, with plain octets alone before it: four are passed at a time, as long as each is above CR.
+fn pass_fours(m: &[u8], i: usize) -> usize
+    ensures { λ r. ⌜ PlainTo (now (m .entry)) i r ⌝ }
+{
+    let stop = last_three(m);
+    let mut n = i;
+    while n < stop {
+        if m[n] < 14 {
+            return n;
+        }
+        if m[n + 1] < 14 {
+            return n + 1;
+        }
+        if m[n + 2] < 14 {
+            return n + 2;
+        }
+        if m[n + 3] < 14 {
+            return n + 3;
+        }
+        n += 4;
+    }
+    n
+}
+
+// The place of the first 0, CR or LF of m at i or behind it, or the end.
+fn find_end(m: &[u8], i: usize) -> usize
+    ensures { λ r. ⌜ Ends (now (m .entry)) i r ⌝ }
+{
+    let mut n = pass_fours(m, i);
+    while n < m.len() {
+        let b = m[n];
         if is_plain(b) {
             n += 1;
         } else {
@@ -49,14 +87,7 @@ fn plain_length(s: &[u8]) -> usize
 pub fn all_plain(s: &[u8]) -> bool
     ensures { λ r. ⌜ r ≡ allPlain (now (s .entry)) ⌝ }
 {
-    s.len() <= plain_length(s)
-}
-
-// The place of the first 0, CR or LF of m at i or behind it, or the end.
-fn find_end(m: &[u8], i: usize) -> usize
-    ensures { λ r. ⌜ Ends (now (m .entry)) i r ⌝ }
-{
-    i + plain_length(after(m, i))
+    s.len() <= find_end(s, 0)
 }
 
 // A line starts with these two: a lower-case letter and '='.
@@ -84,11 +115,19 @@ pub fn next_line(m: &[u8], i: usize) -> Line
     if len < 2 {
         return Line::NoLine;
     }
-    if is_start(m[i], m[i + 1]) {
-        let text = Span { at: i, len };
+    let letter = m[i];
+    if is_start(letter, m[i + 1]) {
+        let value = Span {
+            at: i + 2,
+            len: len - 2,
+        };
         let b = m[e];
         if b == 10 {
-            return Line::Text { text, next: e + 1 };
+            return Line::Text {
+                letter,
+                value,
+                next: e + 1,
+            };
         }
         if b != 13 {
             return Line::NoLine;
@@ -98,7 +137,11 @@ pub fn next_line(m: &[u8], i: usize) -> Line
             return Line::NoLine;
         }
         if m[lf] == 10 {
-            return Line::Text { text, next: lf + 1 };
+            return Line::Text {
+                letter,
+                value,
+                next: lf + 1,
+            };
         }
     }
     Line::NoLine
@@ -110,7 +153,12 @@ pub fn in_lines(m: &[u8]) -> bool
 {
     let mut i = 0;
     while i < m.len() {
-        let Line::Text { text: _, next } = next_line(m, i) else {
+        let Line::Text {
+            letter: _,
+            value: _,
+            next,
+        } = next_line(m, i)
+        else {
             return false;
         };
         i = next;

@@ -2,3 +2,4 @@
 -- Assumes nothing.
 pub mod InnerLaws
 pub mod TokenLaws
+pub mod LengthLaws

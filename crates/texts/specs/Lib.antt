@@ -1,2 +1,3 @@
 -- What the contracts of this crate speak of.
 pub mod Tokens
+pub mod Lengths

@@ -2,9 +2,29 @@
 ghost use mathlib.Core.Path.{_≡_};
 ghost use lib.ListN.{drop};
 ghost use Rattle.octets.specs.Spans.{textOf};
-ghost use Rattle.texts.specs.Tokens.{token, tokenCount, behindBlank};
+ghost use Rattle.texts.specs.Tokens.{behindBlank};
+ghost use Rattle.texts.specs.Lengths.{behindToken, oneBy, twoBy, threeBy, fourBy, tokensOf};
 use octets::Span;
 use octets::parts::find_from;
+use octets::spans::after;
+
+// A text of two tokens: how long the first is. The second is what stands behind it and its blank.
+pub enum Two {
+    Lengths(usize),
+    Other,
+}
+
+// A text of three tokens: how long the first two are.
+pub enum Three {
+    Lengths(usize, usize),
+    Other,
+}
+
+// A text of four tokens: how long the first three are.
+pub enum Four {
+    Lengths(usize, usize, usize),
+    Other,
+}
 
 // The span in m of what p stands for in the text of sp.
 pub fn inner(m: &[u8], sp: Span, p: Span) -> Span
@@ -40,44 +60,6 @@ pub fn skip(m: &[u8], sp: Span, n: usize) -> Span
     inner(m, sp, Span { at: n, len: len })
 }
 
-// How many tokens s has; 0 where one would be empty.
-pub fn count_tokens(s: &[u8]) -> usize
-    ensures { λ r. ⌜ r ≡ tokenCount (now (s .entry)) ⌝ }
-{
-    let mut i = 0;
-    let mut n = 0;
-    while i <= s.len() {
-        let e = find_from(s, 32, i);
-        if e <= i {
-            return 0;
-        }
-        n += 1;
-        if s.len() <= e {
-            return n;
-        }
-        i = e + 1;
-    }
-    0
-}
-
-// The span of the k-th token of s, an empty one where there is none.
-pub fn token_span(s: &[u8], k: usize) -> Span
-    ensures { λ r. ⌜ textOf (now (s .entry)) r ≡ token k (now (s .entry)) ⌝ }
-{
-    let mut i = 0;
-    let mut left = k;
-    while 0 < left {
-        let e = find_from(s, 32, i);
-        if s.len() <= e {
-            return Span { at: 0, len: 0 };
-        }
-        i = e + 1;
-        left -= 1;
-    }
-    let e = find_from(s, 32, i);
-    Span { at: i, len: e - i }
-}
-
 // The span of what stands behind the first blank of s.
 pub fn behind_blank(s: &[u8]) -> Span
     ensures { λ r. ⌜ textOf (now (s .entry)) r ≡ behindBlank (now (s .entry)) ⌝ }
@@ -90,4 +72,77 @@ pub fn behind_blank(s: &[u8]) -> Span
         at: e + 1,
         len: s.len() - (e + 1),
     }
+}
+
+// What stands behind the first token of s and its blank: nothing where that token is empty or the last.
+pub fn behind_token(s: &[u8]) -> &[u8]
+    ensures { λ r. ⌜ now r ≡ behindToken (now (s .entry)) ⌝ }
+{
+    let e = find_from(s, 32, 0);
+    if e < 1 {
+        return &s[..0];
+    }
+    after(s, e + 1)
+}
+
+// s is one token.
+fn is_token(s: &[u8]) -> bool
+    ensures { λ r. ⌜ oneBy (now (s .entry)) r ≡ tokensOf 1 (now (s .entry)) ⌝ }
+{
+    if s.len() < 1 {
+        return false;
+    }
+    let e = find_from(s, 32, 0);
+    s.len() <= e
+}
+
+// s cut into two tokens.
+pub fn cut_two(s: &[u8]) -> Two
+    ensures { λ r. ⌜ twoBy (now (s .entry)) r ≡ tokensOf 2 (now (s .entry)) ⌝ }
+{
+    let e = find_from(s, 32, 0);
+    if e < 1 {
+        return Two::Other;
+    }
+    if s.len() <= e {
+        return Two::Other;
+    }
+    if is_token(after(s, e + 1)) {
+        return Two::Lengths(e);
+    }
+    Two::Other
+}
+
+// s cut into three tokens.
+pub fn cut_three(s: &[u8]) -> Three
+    ensures { λ r. ⌜ threeBy (now (s .entry)) r ≡ tokensOf 3 (now (s .entry)) ⌝ }
+{
+    let e = find_from(s, 32, 0);
+    if e < 1 {
+        return Three::Other;
+    }
+    if s.len() <= e {
+        return Three::Other;
+    }
+    let Two::Lengths(a) = cut_two(after(s, e + 1)) else {
+        return Three::Other;
+    };
+    Three::Lengths(e, a)
+}
+
+// s cut into four tokens.
+pub fn cut_four(s: &[u8]) -> Four
+    ensures { λ r. ⌜ fourBy (now (s .entry)) r ≡ tokensOf 4 (now (s .entry)) ⌝ }
+{
+    let e = find_from(s, 32, 0);
+    if e < 1 {
+        return Four::Other;
+    }
+    if s.len() <= e {
+        return Four::Other;
+    }
+    let Three::Lengths(a, b) = cut_three(after(s, e + 1)) else {
+        return Four::Other;
+    };
+    Four::Lengths(e, a, b)
 }

@@ -3,13 +3,12 @@
 use borrow.Author.Needs.{needs}
 use Rattle.description.proofs.start.Statement.{statement}
 use Rattle.description.proofs.start.Tie as tie
-use Rattle.description.proofs.LineLaws.{start-is}
-
-bare-requires : tie.Need-bare-requires
-bare-requires c κs = search needs
+use Rattle.description.specs.Draft.{start}
+use Rattle.description.specs.Meaning.{preambleBy}
 
 returns : tie.Need-returns
-returns c = search (start-is, needs)
+unfolding preambleBy start
+returns c = search needs
 
 pub start-spec : {M : Type 1} → statement M
-start-spec = tie.close (tie.spec bare-requires returns)
+start-spec = tie.close (tie.spec returns)

@@ -1,39 +1,47 @@
--- `describe` meets its contract: the draft of all lines is whole, or not.
+-- `describe` meets its contract: all lines are right, or one is not, or what stands there is not made of lines.
 -- Assumes nothing.
 use borrow.Author.Needs.{needs}
 use Rattle.ipbcp.proofs.describe.Statement.{statement}
 use Rattle.ipbcp.proofs.describe.Tie as tie
-use Rattle.ipbcp.proofs.ReadLaws.{finishing}
+use Rattle.ipbcp.proofs.ReadLaws.{describing}
 
-read-lines-requires : tie.Need-read-lines-requires
-read-lines-requires c κs = search needs
+read-stream-requires : tie.Need-read-stream-requires
+read-stream-requires c κs = search needs
 
-enum-known-d : tie.Need-enum-known-d
-enum-known-d c = search needs
+enum-known-s : tie.Need-enum-known-s
+enum-known-s c = search needs
 
 enum-told : tie.Need-enum-told
 enum-told c = search needs
 
+after-requires : tie.Need-after-requires
+after-requires c κs = search needs
+
+in-lines-requires : tie.Need-in-lines-requires
+in-lines-requires c κs = search needs
+
 returns : tie.Need-returns
-returns c = search (finishing, needs)
+returns c = search (describing, needs)
+
+returns-2 : tie.Need-returns-2
+returns-2 c = search (describing, needs)
 
 keep-inside-requires : tie.Need-keep-inside-requires
 keep-inside-requires c κs = search needs
 
-returns-2 : tie.Need-returns-2
-returns-2 c = search (finishing, needs)
-
 returns-3 : tie.Need-returns-3
-returns-3 c = search (finishing, needs)
+returns-3 c = search (describing, needs)
 
 pub describe-spec : {M : Type 1} → statement M
 describe-spec =
     tie.close
     (tie.spec
-    read-lines-requires
-    enum-known-d
+    read-stream-requires
+    enum-known-s
     enum-told
+    after-requires
+    in-lines-requires
     returns
-    keep-inside-requires
     returns-2
+    keep-inside-requires
     returns-3)

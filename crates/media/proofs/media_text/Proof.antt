@@ -1,81 +1,76 @@
--- `media_text` meets its contract: the code makes the definition's tests in their order.
+-- `media_text` meets its contract: the line has four tokens, or not.
 -- Assumes nothing.
-use borrow.Author.Tests.{lt-leb}
 use borrow.Author.Needs.{needs}
 use Rattle.media.proofs.media_text.Statement.{statement}
 use Rattle.media.proofs.media_text.Tie as tie
-use Rattle.octets.proofs.Pick.{cond-yes, cond-no, and-no-left, and-no-right}
-use Rattle.octets.proofs.DecimalLaws.{on-value, on-bad}
-use Rattle.media.specs.Attributes.{mediaOf}
-use Rattle.media.specs.Meaning.{takenBy}
-use Rattle.media.proofs.LineLaws.{media-read, four, not-four}
+use Rattle.media.proofs.LineLaws.{medias}
+use Rattle.texts.proofs.LengthLaws.{lengths}
 
-count-tokens-requires : tie.Need-count-tokens-requires
-count-tokens-requires c κs = search needs
+cut-four-requires : tie.Need-cut-four-requires
+cut-four-requires c κs = search needs
 
-returns : tie.Need-returns
-unfolding mediaOf takenBy
-returns c = search (cond-no, not-four, needs)
-
-token-number-requires : tie.Need-token-number-requires
-token-number-requires c κs = search needs
-
-enum-known-port : tie.Need-enum-known-port
-enum-known-port c = search needs
+enum-known-a : tie.Need-enum-known-a
+enum-known-a c = search needs
 
 enum-told : tie.Need-enum-told
 enum-told c = search needs
 
+returns : tie.Need-returns
+returns c = search (medias, needs)
+
+add-after : tie.Need-add-after
+add-after c = search (lengths, needs)
+
+after-requires : tie.Need-after-requires
+after-requires c κs = search needs
+
+add-after-2 : tie.Need-add-after-2
+add-after-2 c = search (lengths, needs)
+
+add-after-3 : tie.Need-add-after-3
+add-after-3 c = search (lengths, needs)
+
+add-after-4 : tie.Need-add-after-4
+add-after-4 c = search (lengths, needs)
+
+add-after-5 : tie.Need-add-after-5
+add-after-5 c = search (lengths, needs)
+
+after-requires-2 : tie.Need-after-requires-2
+after-requires-2 c κs = search needs
+
+up-to-requires : tie.Need-up-to-requires
+up-to-requires c κs = search needs
+
+add-after-6 : tie.Need-add-after-6
+add-after-6 c = search (lengths, needs)
+
+after-requires-3 : tie.Need-after-requires-3
+after-requires-3 c κs = search needs
+
+media-tokens-requires : tie.Need-media-tokens-requires
+media-tokens-requires c κs = search needs
+
 returns-2 : tie.Need-returns-2
-unfolding mediaOf takenBy
-returns-2 c = search (cond-yes, four, on-bad, needs)
-
-token-number-requires-2 : tie.Need-token-number-requires-2
-token-number-requires-2 c κs = search needs
-
-enum-known-payload : tie.Need-enum-known-payload
-enum-known-payload c = search needs
-
-enum-told-2 : tie.Need-enum-told-2
-enum-told-2 c = search needs
-
-returns-3 : tie.Need-returns-3
-unfolding mediaOf takenBy
-returns-3 c = search (cond-yes, four, on-value, on-bad, needs)
-
-returns-4 : tie.Need-returns-4
-unfolding mediaOf takenBy
-returns-4 c = search (cond-yes, cond-no, four, on-value, and-no-left, lt-leb, needs) depth 6
-
-returns-5 : tie.Need-returns-5
-unfolding mediaOf takenBy
-returns-5 c = search (cond-yes, cond-no, four, on-value, and-no-right, lt-leb, needs) depth 6
-
-cast-bare-stream : tie.Need-cast-bare-stream
-cast-bare-stream c = search needs
-
-bare-stream-requires : tie.Need-bare-stream-requires
-bare-stream-requires c κs = search needs
-
-returns-6 : tie.Need-returns-6
-returns-6 c = search (media-read, needs)
+returns-2 c = search (medias, needs)
 
 pub media-text-spec : {M : Type 1} → statement M
 media-text-spec =
     tie.close
     (tie.spec
-    count-tokens-requires
-    returns
-    token-number-requires
-    enum-known-port
+    cut-four-requires
+    enum-known-a
     enum-told
-    returns-2
-    token-number-requires-2
-    enum-known-payload
-    enum-told-2
-    returns-3
-    returns-4
-    returns-5
-    cast-bare-stream
-    bare-stream-requires
-    returns-6)
+    returns
+    add-after
+    after-requires
+    add-after-2
+    add-after-3
+    add-after-4
+    add-after-5
+    after-requires-2
+    up-to-requires
+    add-after-6
+    after-requires-3
+    media-tokens-requires
+    returns-2)

@@ -1,9 +1,9 @@
 -- `next_line` meets its contract: the tests of the code say which octets stand at both ends of the plain part.
 -- Assumes nothing.
 use borrow.Author.Needs.{needs}
-use Rattle.sdp.proofs.EndLaws.{cuts}
 use Rattle.sdp.proofs.next_line.Statement.{statement}
 use Rattle.sdp.proofs.next_line.Tie as tie
+use Rattle.sdp.proofs.EndLaws.{cuts}
 
 find-end-requires : tie.Need-find-end-requires
 find-end-requires c κs = search needs
@@ -17,23 +17,26 @@ sub-len c = search needs
 returns-2 : tie.Need-returns-2
 returns-2 c = search (cuts, needs)
 
-shared-slice-read-is-start : tie.Need-shared-slice-read-is-start
-shared-slice-read-is-start c = search needs
+shared-slice-read-letter : tie.Need-shared-slice-read-letter
+shared-slice-read-letter c = search needs
 
 add-is-start : tie.Need-add-is-start
 add-is-start c = search needs
 
-shared-slice-read-is-start-2 : tie.Need-shared-slice-read-is-start-2
-shared-slice-read-is-start-2 c = search needs
+shared-slice-read-is-start : tie.Need-shared-slice-read-is-start
+shared-slice-read-is-start c = search needs
 
 is-start-requires : tie.Need-is-start-requires
 is-start-requires c κs = search needs
 
+add-if6 : tie.Need-add-if6
+add-if6 c = search needs
+
 shared-slice-read-b : tie.Need-shared-slice-read-b
 shared-slice-read-b c = search needs
 
-add-t18 : tie.Need-add-t18
-add-t18 c = search needs
+add-t20 : tie.Need-add-t20
+add-t20 c = search needs
 
 returns-3 : tie.Need-returns-3
 returns-3 c = search (cuts, needs)
@@ -50,8 +53,8 @@ returns-5 c = search (cuts, needs)
 shared-slice-read-if7 : tie.Need-shared-slice-read-if7
 shared-slice-read-if7 c = search needs
 
-add-t21 : tie.Need-add-t21
-add-t21 c = search needs
+add-t22 : tie.Need-add-t22
+add-t22 c = search needs
 
 returns-6 : tie.Need-returns-6
 returns-6 c = search (cuts, needs)
@@ -70,18 +73,19 @@ next-line-spec =
     returns
     sub-len
     returns-2
-    shared-slice-read-is-start
+    shared-slice-read-letter
     add-is-start
-    shared-slice-read-is-start-2
+    shared-slice-read-is-start
     is-start-requires
+    add-if6
     shared-slice-read-b
-    add-t18
+    add-t20
     returns-3
     returns-4
     add-lf
     returns-5
     shared-slice-read-if7
-    add-t21
+    add-t22
     returns-6
     returns-7
     returns-8)

@@ -4,21 +4,31 @@ use borrow.Author.Needs.{needs}
 use Rattle.description.proofs.lines.is_time.Statement.{statement}
 use Rattle.description.proofs.lines.is_time.Tie as tie
 use Rattle.description.proofs.LineLaws.{times}
+use Rattle.texts.proofs.LengthLaws.{lengths}
 
-count-tokens-requires : tie.Need-count-tokens-requires
-count-tokens-requires c κs = search needs
+cut-two-requires : tie.Need-cut-two-requires
+cut-two-requires c κs = search needs
+
+enum-known-a : tie.Need-enum-known-a
+enum-known-a c = search needs
+
+enum-told : tie.Need-enum-told
+enum-told c = search needs
 
 returns : tie.Need-returns
 returns c = search (times, needs)
 
-part-requires : tie.Need-part-requires
-part-requires c κs = search needs
+up-to-requires : tie.Need-up-to-requires
+up-to-requires c κs = search needs
 
 digit-run-requires : tie.Need-digit-run-requires
 digit-run-requires c κs = search needs
 
-part-requires-2 : tie.Need-part-requires-2
-part-requires-2 c κs = search needs
+add-after : tie.Need-add-after
+add-after c = search (lengths, needs)
+
+after-requires : tie.Need-after-requires
+after-requires c κs = search needs
 
 digit-run-requires-2 : tie.Need-digit-run-requires-2
 digit-run-requires-2 c κs = search needs
@@ -33,11 +43,14 @@ pub is-time-spec : {M : Type 1} → statement M
 is-time-spec =
     tie.close
     (tie.spec
-    count-tokens-requires
+    cut-two-requires
+    enum-known-a
+    enum-told
     returns
-    part-requires
+    up-to-requires
     digit-run-requires
-    part-requires-2
+    add-after
+    after-requires
     digit-run-requires-2
     returns-2
     returns-3)

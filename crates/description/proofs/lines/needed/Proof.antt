@@ -3,24 +3,19 @@
 use borrow.Author.Needs.{needs}
 use Rattle.description.proofs.lines.needed.Statement.{statement}
 use Rattle.description.proofs.lines.needed.Tie as tie
-use Rattle.octets.proofs.Pick.{picks, flags}
-use Rattle.description.specs.Draft.{needed, reached}
-use Rattle.description.specs.Meaning.{draftBy, stepBy}
+use Rattle.description.proofs.LineLaws.{neededs}
 
 returns : tie.Need-returns
-unfolding needed reached stepBy draftBy
-returns c = λ m. search (picks, flags, needs)
+returns c = search (neededs, needs)
 
-add-more : tie.Need-add-more
-add-more c = search needs
+add-t7 : tie.Need-add-t7
+add-t7 c = search needs
 
 returns-2 : tie.Need-returns-2
-unfolding needed reached stepBy draftBy
-returns-2 c = λ m. search (picks, flags, needs)
+returns-2 c = search (neededs, needs)
 
 returns-3 : tie.Need-returns-3
-unfolding needed reached stepBy draftBy
-returns-3 c = λ m. search (picks, flags, needs)
+returns-3 c = search (neededs, needs)
 
 pub needed-spec : {M : Type 1} → statement M
-needed-spec = tie.close (tie.spec returns add-more returns-2 returns-3)
+needed-spec = tie.close (tie.spec returns add-t7 returns-2 returns-3)

@@ -10,6 +10,9 @@ use Prim.Native.Nat.{_-_}
 use mathlib.Core.Path.{_≡_}
 use lib.ListN.{length, drop}
 
+-- `types::read_head` meets its contract: a line that is no ipbcp line leaves version and type to the lines behind it.
+-- Assumes nothing.
+
 abbrev Inv-loop : tie.InvT-loop
 Inv-loop m i₀ i = headIn (drop i m) ≡ headIn m
 
@@ -22,8 +25,8 @@ loop-holds c = search needs
 next-line-requires : tie.Need-next-line-requires Inv-loop μ-loop
 next-line-requires c κs = search needs
 
-enum-known-sp : tie.Need-enum-known-sp Inv-loop μ-loop
-enum-known-sp c = search needs
+enum-known-letter : tie.Need-enum-known-letter Inv-loop μ-loop
+enum-known-letter c = search needs
 
 enum-told : tie.Need-enum-told Inv-loop μ-loop
 enum-told c = search (heads, needs)
@@ -43,14 +46,8 @@ after-requires c κs = search needs
 in-lines-requires : tie.Need-in-lines-requires Inv-loop μ-loop
 in-lines-requires c κs = search needs
 
-after-requires-2 : tie.Need-after-requires-2 Inv-loop μ-loop
-after-requires-2 c κs = search needs
-
-without-blank-requires : tie.Need-without-blank-requires Inv-loop μ-loop
-without-blank-requires c κs = search needs
-
-head-of-requires : tie.Need-head-of-requires Inv-loop μ-loop
-head-of-requires c κs = search needs
+read-value-requires : tie.Need-read-value-requires Inv-loop μ-loop
+read-value-requires c κs = search needs
 
 returns-2 : tie.Need-returns-2 Inv-loop μ-loop
 returns-2 c = search (heads, needs)
@@ -75,16 +72,14 @@ read-head-spec =
     μ-loop
     loop-holds
     next-line-requires
-    enum-known-sp
+    enum-known-letter
     enum-told
     returns
     text-requires
     is-ipbcp-requires
     after-requires
     in-lines-requires
-    after-requires-2
-    without-blank-requires
-    head-of-requires
+    read-value-requires
     returns-2
     returns-3
     loop-less

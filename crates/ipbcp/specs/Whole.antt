@@ -1,0 +1,62 @@
+-- For functions that are not public: what the lines of a text say together, where it is made of lines.
+use Prim.Native.Nat.{ℕ}
+use mathlib.Core.Path.{_≡_}
+use mathlib.Core.List.{List}
+use mathlib.Core.Bool.{true, cond}
+use mathlib.Core.Option.{Option, none, some, Option·elim}
+use lib.ListN.{drop}
+use lib.Dec.{eqb}
+use Rattle.octets.specs.declared.Span.{Span}
+use Rattle.octets.specs.Spans.{textOf}
+use Rattle.sdp.specs.Lines.{lines, inLines}
+use Rattle.address.specs.declared.Address.{Address}
+use Rattle.media.specs.declared.Stream.{Stream as Places}
+use Rattle.media.specs.declared.Taken.{Taken}
+use Rattle.media.specs.Meaning.{streamBy}
+use Rattle.description.specs.Draft.{Draft, start, mediaLine}
+use Rattle.description.specs.Meaning.{between, later, laterBy}
+use Rattle.ipbcp.specs.declared.Kind.{Kind}
+use Rattle.ipbcp.specs.declared.Head.{Head}
+use Rattle.ipbcp.specs.declared.Head.the-variants.{Typed, Untyped}
+use Rattle.ipbcp.specs.Types.{headIn}
+use Rattle.ipbcp.specs.Reading.{typed, linesOf, isDescribed, byHead}
+
+-- d with all lines of m
+unfoldable pub wholeOf : Draft → List ℕ → Option Draft
+wholeOf d m = cond (inLines m) (linesOf d (lines m)) none
+
+-- the same behind a line that may be wrong
+unfoldable pub withLines : Option Draft → List ℕ → Option Draft
+withLines o m = Option·elim o none (λ d. wholeOf d m)
+
+-- o, if it has all seven needed lines
+unfoldable pub ended : Option Draft → Option Draft
+ended none = none
+ended (some d) = cond (eqb (d .had) 7) (some d) none
+
+-- r is the stream s with the lines of m from `from` on behind its media line, whatever the address is
+pub record LaterLines (m : List ℕ) (s : Places) (from : ℕ) (r : Taken) : Type 0 where
+  pub is : (a : Address) → laterBy a m r ≡ wholeOf (later a (streamBy m s)) (drop from m)
+
+-- r is the stream of the media line with the value of v, and of the lines of m from `from` on behind it
+pub record MediaLines (m : List ℕ) (v : Span) (from : ℕ) (r : Taken) : Type 0 where
+  pub is : (a : Address) → laterBy a m r ≡ withLines (mediaLine (between a) (textOf m v)) (drop from m)
+
+-- r is the stream of the lines of m from `from` on, behind an ipbcp line
+pub record StreamLines (m : List ℕ) (from : ℕ) (r : Taken) : Type 0 where
+  pub is : (a : Address) → laterBy a m r ≡ ended (wholeOf (between a) (drop from m))
+
+-- the lines of m before `from` are right; the last is the ipbcp line, which says h, and the address is theirs
+pub record Reached (m : List ℕ) (h : Head) (address : Address) (from : ℕ) : Type 0 where
+  pub lines : wholeOf (between address) (drop from m) ≡ wholeOf start m
+  pub head : cond (inLines (drop from m)) h Untyped ≡ headIn m
+
+-- the lines of m before `from` are right, and say this version and type, of which no more is read
+pub record TypeAlone (m : List ℕ) (version : ℕ) (kind : Kind) (from : ℕ) : Type 0 where
+  pub head : cond (inLines (drop from m)) (Typed version kind) Untyped ≡ headIn m
+  pub alone : byHead m (Typed version kind) ≡ typed version kind
+
+-- they are those of a Request or Accepted of version 1
+pub record Describes (m : List ℕ) (kind : Kind) (address : Address) (from : ℕ) : Type 0 where
+  pub reached : Reached m (Typed 1 kind) address from
+  pub more : isDescribed kind ≡ true
