@@ -1,5 +1,4 @@
 -- The laws of `gather`, and of any chain of its calls.
 -- Assumes nothing.
-pub mod FindLaws
 pub mod GatherLaws
 pub mod WholeLaws

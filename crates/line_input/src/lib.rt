@@ -2,8 +2,6 @@
 ghost use mathlib.Core.Path.{_≡_};
 ghost use mathlib.Core.Bool.{_||_};
 ghost use lib.Dec.{ltb};
-ghost use Prim.Native.Nat.{_-_};
-ghost use Rattle.octets.specs.Split.{Found};
 ghost use Rattle.line_input.specs.Gather.{Gathers};
 use octets::append::push;
 use octets::parts::find_from;
@@ -22,16 +20,6 @@ pub struct Gathered {
     pub ended: bool,
 }
 
-// n less 3, or 0.
-fn less_three(n: usize) -> usize
-    ensures { λ r. ⌜ r ≡ n - 3 ⌝ }
-{
-    if n < 3 {
-        return 0;
-    }
-    n - 3
-}
-
 // A line was too long before, or fewer octets of it found room than there are.
 fn is_over(over: bool, stored: usize, all: usize) -> bool
     ensures { λ r. ⌜ r ≡ (over || ltb stored all) ⌝ }
@@ -42,36 +30,12 @@ fn is_over(over: bool, stored: usize, all: usize) -> bool
     stored < all
 }
 
-// Where the first LF of part at i or behind it is, or the end.
-fn find_lf(part: &[u8], i: usize) -> usize
-    ensures { λ r. ⌜ Found (now (part .entry)) 10 i r ⌝ }
-{
-    let stop = less_three(part.len());
-    let mut n = i;
-    while n < stop {
-        if part[n] == 10 {
-            return n;
-        }
-        if part[n + 1] == 10 {
-            return n + 1;
-        }
-        if part[n + 2] == 10 {
-            return n + 2;
-        }
-        if part[n + 3] == 10 {
-            return n + 3;
-        }
-        n += 4;
-    }
-    find_from(part, 10, n)
-}
-
 // Puts the octets of part from `from` to its first LF, or to its end, behind the len octets that
 // are in line. What finds no room is passed over.
 pub fn gather(part: &[u8], from: usize, line: &mut [u8], len: usize, over: bool) -> Gathered
     ensures { λ r. ⌜ Gathers (now (part .entry)) from (now (line .entry)) len over r (now (line .exit)) ⌝ }
 {
-    let e = find_lf(part, from);
+    let e = find_from(part, 10, from);
     let n = push(up_to(after(part, from), e - from), line, len);
     let full = is_over(over, n - len, e - from);
     if e < part.len() {

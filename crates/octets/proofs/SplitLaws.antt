@@ -45,6 +45,24 @@ module _ (s : List ℕ) (c i x : ℕ) (inv : findAt s c i ≡ x) where
   unfolding findAt before
   find-past h = rw (drop-of-length-le s h, add-zero) at inv
 
+-- four at a time: no c is among the octets that were looked at
+module _ (s : List ℕ) (c i x : ℕ) (inv : findAt s c i ≡ x) (stop : ℕ) (is : stop ≡ length s - 3) (low : i < stop) (a : getD s i 0 ≡ c → ⊥) where
+  pub four-1 : findAt s c (i + 1) ≡ x
+  four-1 = find-more s c i x inv (omega arith) a
+
+  module _ (b : getD s (i + 1) 0 ≡ c → ⊥) where
+    pub four-2 : findAt s c (i + 2) ≡ x
+    four-2 = let z : i + 1 + 1 ≡ i + 2 = omega arith in rw z at (find-more s c (i + 1) x four-1 (omega arith) b)
+
+    module _ (d : getD s (i + 2) 0 ≡ c → ⊥) where
+      pub four-3 : findAt s c (i + 3) ≡ x
+      four-3 = let z : i + 2 + 1 ≡ i + 3 = omega arith in rw z at (find-more s c (i + 2) x four-2 (omega arith) d)
+
+      pub four-4 : (getD s (i + 3) 0 ≡ c → ⊥) → findAt s c (i + 4) ≡ x
+      four-4 e = let z : i + 3 + 1 ≡ i + 4 = omega arith in rw z at (find-more s c (i + 3) x four-3 (omega arith) e)
+
+pub ruleset fours = (four-1, four-2, four-3, four-4)
+
 pub found : (s : List ℕ) (c from r : ℕ) → r ≡ findAt s c from → Found s c from r
 unfolding findAt
 found s c from r e =

@@ -1,12 +1,48 @@
 // The parts of a text between separators.
 ghost use mathlib.Core.Path.{_≡_};
-ghost use Rattle.octets.specs.Split.{Found, splitOn, partOf, separatorsOf};
+ghost use Prim.Native.Nat.{_-_};
+ghost use lib.ListN.{length};
+ghost use Rattle.octets.specs.Split.{findAt, Found, splitOn, partOf, separatorsOf};
+
+// The first of the last three positions of s; 0 where it has no more than three. Octets below it can be looked at in fours.
+pub fn last_three(s: &[u8]) -> usize
+    ensures { λ r. ⌜ r ≡ length (now (s .entry)) - 3 ⌝ }
+{
+    if s.len() < 3 {
+        return 0;
+    }
+    s.len() - 3
+}
+
+// A position at `from` or after it with no c of s between, found four octets at a time.
+fn pass_fours(s: &[u8], c: u8, from: usize) -> usize
+    ensures { λ r. ⌜ findAt (now (s .entry)) c r ≡ findAt (now (s .entry)) c from ⌝ }
+{
+    let stop = last_three(s);
+    let mut n = from;
+    while n < stop {
+        if s[n] == c {
+            return n;
+        }
+        if s[n + 1] == c {
+            return n + 1;
+        }
+        if s[n + 2] == c {
+            return n + 2;
+        }
+        if s[n + 3] == c {
+            return n + 3;
+        }
+        n += 4;
+    }
+    n
+}
 
 // The position of the first c of s at `from` or after it, or the end.
 pub fn find_from(s: &[u8], c: u8, from: usize) -> usize
     ensures { λ r. ⌜ Found (now (s .entry)) c from r ⌝ }
 {
-    let mut i = from;
+    let mut i = pass_fours(s, c, from);
     while i < s.len() {
         if s[i] == c {
             return i;

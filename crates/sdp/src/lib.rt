@@ -2,12 +2,12 @@
 ghost use mathlib.Core.Path.{_≡_};
 ghost use mathlib.Core.Bool.{_&&_};
 ghost use mathlib.Core.Option.{some};
-ghost use Prim.Native.Nat.{_-_};
-ghost use lib.ListN.{length, drop};
+ghost use lib.ListN.{drop};
 ghost use lib.Dec.{leb, eqb};
 ghost use Rattle.sdp.specs.Lines.{isPlain, allPlain, inLines};
 ghost use Rattle.sdp.specs.Cut.{firstLine, lineIn, PlainTo, Ends};
 use octets::Span;
+use octets::parts::last_three;
 
 pub enum Line {
     // A line: its letter, its value (what stands after the `=`), and where the next line starts.
@@ -33,17 +33,7 @@ fn is_plain(b: u8) -> bool
     b != 10
 }
 
-// The first of the last three places of m, and 0 where it has no more.
-fn last_three(m: &[u8]) -> usize
-    ensures { λ r. ⌜ r ≡ length (now (m .entry)) - 3 ⌝ }
-{
-    if m.len() < 3 {
-        return 0;
-    }
-    m.len() - 3
-}
-
-// A place at i or behind it, with plain octets alone before it: four are passed at a time, as long as each is above CR.
+// A place at i or after it, with plain octets alone between: four are passed at a time, as long as each is above CR.
 fn pass_fours(m: &[u8], i: usize) -> usize
     ensures { λ r. ⌜ PlainTo (now (m .entry)) i r ⌝ }
 {
@@ -67,7 +57,7 @@ fn pass_fours(m: &[u8], i: usize) -> usize
     n
 }
 
-// The place of the first 0, CR or LF of m at i or behind it, or the end.
+// The place of the first 0, CR or LF of m at i or after it, or the end.
 fn find_end(m: &[u8], i: usize) -> usize
     ensures { λ r. ⌜ Ends (now (m .entry)) i r ⌝ }
 {

@@ -5,8 +5,8 @@ use Rattle.line_input.proofs.GatherLaws.{gathering}
 use Rattle.line_input.proofs.gather.Statement.{statement}
 use Rattle.line_input.proofs.gather.Tie as tie
 
-find-lf-requires : tie.Need-find-lf-requires
-find-lf-requires c κs = search needs
+find-from-requires : tie.Need-find-from-requires
+find-from-requires c κs = search needs
 
 after-requires : tie.Need-after-requires
 after-requires c κs = search needs
@@ -48,7 +48,7 @@ pub gather-spec : {M : Type 1} → statement M
 gather-spec =
     tie.close
     (tie.spec
-    find-lf-requires
+    find-from-requires
     after-requires
     sub-up-to
     up-to-requires

@@ -15,6 +15,9 @@ Inv-loop s c from i₀ i = findAt s c i ≡ findAt s c from
 abbrev μ-loop : tie.MeasureT-loop
 μ-loop s c from i₀ i = length s - i
 
+pass-fours-requires : tie.Need-pass-fours-requires Inv-loop μ-loop
+pass-fours-requires c κs = search needs
+
 loop-holds : tie.Need-loop-holds Inv-loop μ-loop
 loop-holds c = search needs
 
@@ -42,6 +45,7 @@ find-from-spec =
     (tie.spec
     Inv-loop
     μ-loop
+    pass-fours-requires
     loop-holds
     shared-slice-read-if1
     returns

@@ -1,22 +1,22 @@
--- `find_lf` meets its contract: each turn leaves the answer of the search from there as it is.
+-- `parts::pass_fours` meets its contract: each octet that is passed is no c, so the search from the next position finds the same.
 -- Assumes nothing.
-use Prim.Native.Nat.{_-_, _≤_}
-use mathlib.Core.Path.{_≡_}
-use lib.ListN.{length}
 use borrow.Author.Needs.{needs}
+use Rattle.octets.proofs.parts.pass_fours.Statement.{statement}
+use Rattle.octets.proofs.parts.pass_fours.Tie as tie
+use Rattle.octets.proofs.SplitLaws.{fours}
+use mathlib.Core.Path.{_≡_}
+use Prim.Native.Nat.{_-_}
 use Rattle.octets.specs.Split.{findAt}
-use Rattle.line_input.proofs.FindLaws.{fours}
-use Rattle.line_input.proofs.find_lf.Statement.{statement}
-use Rattle.line_input.proofs.find_lf.Tie as tie
+use lib.ListN.{length}
 
 abbrev Inv-loop : tie.InvT-loop
-Inv-loop part i stop n₀ n = (findAt part 10 n ≡ findAt part 10 i) × (stop ≤ length part - 3)
+Inv-loop s c from stop n₀ n = (findAt s c n ≡ findAt s c from) × (stop ≡ length s - 3)
 
 abbrev μ-loop : tie.MeasureT-loop
-μ-loop part i stop n₀ n = stop - n
+μ-loop s c from stop n₀ n = stop - n
 
-less-three-requires : tie.Need-less-three-requires Inv-loop μ-loop
-less-three-requires c κs = search needs
+last-three-requires : tie.Need-last-three-requires Inv-loop μ-loop
+last-three-requires c κs = search needs
 
 loop-holds : tie.Need-loop-holds Inv-loop μ-loop
 loop-holds c = search needs
@@ -72,19 +72,16 @@ loop-less c = search needs
 loop-again : tie.Need-loop-again Inv-loop μ-loop
 loop-again c = search (fours, needs)
 
-find-from-requires : tie.Need-find-from-requires Inv-loop μ-loop
-find-from-requires c κs = search needs
-
 returns-5 : tie.Need-returns-5 Inv-loop μ-loop
 returns-5 c = search (fours, needs)
 
-pub find-lf-spec : {M : Type 1} → statement M
-find-lf-spec =
+pub pass-fours-spec : {M : Type 1} → statement M
+pass-fours-spec =
     tie.close
     (tie.spec
     Inv-loop
     μ-loop
-    less-three-requires
+    last-three-requires
     loop-holds
     shared-slice-read-if1
     returns
@@ -103,5 +100,4 @@ find-lf-spec =
     add-n
     loop-less
     loop-again
-    find-from-requires
     returns-5)
