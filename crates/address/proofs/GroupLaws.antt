@@ -3,9 +3,9 @@
 use Prim.Native.Nat.{ℕ, _+_, _*_, _^_, _≤_, _<_}
 use mir.Val.{Fits}
 use mir.Syntax.{w16}
-use mathlib.Core.Path.{_≡_, refl, sym, _∙_}
+use mathlib.Core.Path.{_≡_}
 use mathlib.Core.List.{List, [], _∷_, map}
-use mathlib.Core.Bool.{Bool, true, false, _&&_, cond, and-eq-true-iff}
+use mathlib.Core.Bool.{true, _&&_, cond, and-eq-true-iff}
 use lib.ListN.{length, getD, drop, length-map, drop-of-length-le}
 use lib.Dec.{leb}
 use native.Mathlib.Nat.{pow-le-pow-right, zero-add}
@@ -14,9 +14,9 @@ use native.Mathlib.Omega.{arith}
 use borrow.Author.Tests.{le-leb, leb-true}
 use Rattle.octets.specs.declared.Number.{Number}
 use Rattle.octets.specs.declared.Number.the-variants.{Value, Bad}
-use Rattle.octets.specs.Hex.{isHexDigit, hexValue, allHex, Valued}
+use Rattle.octets.specs.Hex.{hexValue, allHex, digitIn}
 use Rattle.octets.proofs.Laws.{next}
-use Rattle.octets.proofs.HexLaws.{valued}
+use Rattle.octets.proofs.HexLaws.{value-low, none-digit, some-digit}
 use Rattle.address.specs.Parts.{inBase}
 use Rattle.address.specs.Ipv6.{isGroup, groupValue}
 use Rattle.address.specs.Steps.{readGroup}
@@ -30,24 +30,24 @@ pub group-starts : (s : List ℕ) → 1 ≤ length s → length s ≤ 4 → digi
 unfolding readGroup isGroup groupValue digitsFrom
 group-starts s p q = simp (le-leb 1 (length s) p, le-leb (length s) 4 q)
 
--- At i: what was read so far is n, and `digitsFrom n` of the rest is the answer x; t is whether the octet there is a digit.
+-- At i: what was read so far is n, and `digitsFrom n` of the rest is the answer x; d is what `digit` says of the octet there.
 module _ (s : List ℕ) (i n : ℕ) (x : Number) (inv : digitsFrom n (drop i s) ≡ x) where
-  module _ (t : Bool) (e : t ≡ isHexDigit (getD s i 0)) (h : i < length s) where
-    pub group-digit : (d : ℕ) → t ≡ true → Valued (getD s i 0) d → digitsFrom (n * 16 + d) (drop (i + 1) s) ≡ x
+  module _ (d : ℕ) (e : d ≡ digitIn (getD s i 0)) (h : i < length s) where
+    pub group-digit : d ≤ 15 → digitsFrom (n * 16 + d) (drop (i + 1) s) ≡ x
     unfolding digitsFrom allHex inBase
-    group-digit d p v = let q : isHexDigit (getD s i 0) ≡ true = sym e ∙ p in rw (v .is) (rw (next s i h, q) at inv)
+    group-digit k = let (p, v) = some-digit (getD s i 0) d e k in rw v (rw (next s i h, p) at inv)
 
-    pub group-other : t ≡ false → Bad ≡ x
+    pub group-other : 15 < d → Bad ≡ x
     unfolding digitsFrom allHex
-    group-other p = let q : isHexDigit (getD s i 0) ≡ false = sym e ∙ p in rw (next s i h, q) at inv
+    group-other k = rw (next s i h, none-digit (getD s i 0) d e k) at inv
 
   pub group-end : length s ≤ i → Value n ≡ x
   unfolding digitsFrom allHex inBase
   group-end h = rw (drop-of-length-le s h) at inv
 
 -- i digits stand for less than 16 ^ i
-pub group-next : (n i b d : ℕ) → n < 16 ^ i → Valued b d → n * 16 + d < 16 ^ (i + 1)
-group-next n i b d h v = rw add-one (next-below 16 n i d h (v .low))
+pub group-next : (n i d : ℕ) → n < 16 ^ i → d ≤ 15 → n * 16 + d < 16 ^ (i + 1)
+group-next n i d h v = rw add-one (next-below 16 n i d h (omega arith))
 
 pub ruleset groupRead = (group-starts, group-digit, group-other, group-end, group-next)
 
@@ -59,13 +59,13 @@ three-digits n i h p =
 pub mul-fits : (s : List ℕ) (n i : ℕ) → n < 16 ^ i → i < length s → length s ≤ 4 → Fits w16 (n * 16)
 mul-fits s n i h p q = let k = three-digits n i h (omega arith) in omega arith
 
-pub add-fits : (s : List ℕ) (n i b d : ℕ) → n < 16 ^ i → i < length s → length s ≤ 4 → Valued b d → Fits w16 (n * 16 + d)
-add-fits s n i b d h p q v = let k = three-digits n i h (omega arith) in let l = v .low in omega arith
+pub add-fits : (s : List ℕ) (n i d : ℕ) → n < 16 ^ i → i < length s → length s ≤ 4 → d ≤ 15 → Fits w16 (n * 16 + d)
+add-fits s n i d h p q v = let k = three-digits n i h (omega arith) in omega arith
 
 -- ---- for callers
 hex-below : (s : List ℕ) → Below 16 (map hexValue s)
 hex-below [] = none
-hex-below (b ∷ bs) = one (valued b (hexValue b) refl .low) (hex-below bs)
+hex-below (b ∷ bs) = one (value-low b) (hex-below bs)
 
 pub group-small : (p : List ℕ) → isGroup p ≡ true → groupValue p < 65536
 unfolding isGroup groupValue

@@ -11,8 +11,7 @@ use crate::POWER_48;
 use crate::Parsed;
 use crate::is_unicast;
 use octets::Number;
-use octets::hex::hex_value;
-use octets::hex::is_hex_digit;
+use octets::hex::digit;
 use octets::parts::find_from;
 
 // The halves of an address while it is read.
@@ -53,14 +52,12 @@ fn read_group(s: &[u8]) -> Number
     let mut n: u16 = 0;
     let mut i = 0;
     while i < s.len() {
-        let b = s[i];
-        if is_hex_digit(b) {
-            let d = hex_value(b);
-            n = n * 16 + d as u16;
-            i += 1;
-        } else {
+        let d = digit(s[i]);
+        if 15 < d {
             return Number::Bad;
         }
+        n = n * 16 + d as u16;
+        i += 1;
     }
     Number::Value(n)
 }

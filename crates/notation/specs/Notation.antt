@@ -36,10 +36,6 @@ unfoldable pub refusedShown : ℕ → List ℕ
 refusedShown n = (114 ∷ 101 ∷ 102 ∷ 117 ∷ 115 ∷ 101 ∷ 100 ∷ 45 ∷ []) ++ numberText n
 
 -- ---- octets in pairs of digits
--- for the code: the value of a digit; 16 for an octet that is none
-unfoldable pub digitIn : ℕ → ℕ
-digitIn b = cond (isHexDigit b) (hexValue b) 16
-
 -- the octets of the pairs in front of the first that is not two digits
 unfoldable pub octetsBefore : List ℕ → List ℕ
 octetsBefore [] = []

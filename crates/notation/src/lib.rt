@@ -1,10 +1,11 @@
 // How the programs show octets, texts and refusals, and how they are given the length of a buffer.
 ghost use mathlib.Core.Path.{_≡_};
 ghost use mathlib.Core.List.{_∷_, _++_};
+ghost use Prim.Native.Nat.{min};
 ghost use Rattle.octets.specs.Append.{Appends};
 ghost use Rattle.octets.specs.Spans.{textOf};
 ghost use Rattle.media.specs.Meaning.{textsBy};
-ghost use Rattle.notation.specs.Notation.{octetsShown, textShown, textsShown, refusedShown, digitIn, ReadsOctets, lengthIn, largeIn};
+ghost use Rattle.notation.specs.Notation.{octetsShown, textShown, textsShown, refusedShown, ReadsOctets, lengthIn, largeIn};
 use media::Texts;
 use octets::Number;
 use octets::Span;
@@ -12,8 +13,7 @@ use octets::append::push;
 use octets::append::push_number;
 use octets::append::push_octet;
 use octets::decimal::read_number;
-use octets::hex::hex_value;
-use octets::hex::is_hex_digit;
+use octets::hex::digit;
 use octets::hex::push_hex;
 use octets::spans::text;
 use octets::words::digit_run;
@@ -90,14 +90,14 @@ pub fn push_refused(n: u8, out: &mut [u8], at: usize) -> usize
     push_number(n as u64, out, k)
 }
 
-// The value of a digit, of either case; 16 for an octet that is none.
-fn digit(b: u8) -> u8
-    ensures { λ r. ⌜ r ≡ digitIn b ⌝ }
+// How many of n octets find room in a buffer of `room`.
+fn fitting(n: usize, room: usize) -> usize
+    ensures { λ r. ⌜ r ≡ min n room ⌝ }
 {
-    if is_hex_digit(b) {
-        return hex_value(b);
+    if room < n {
+        return room;
     }
-    16
+    n
 }
 
 // Puts the octets that the pairs of digits in t stand for at the front of dst, up to the first pair that is none or finds no
@@ -106,11 +106,9 @@ pub fn read_octets(t: &[u8], dst: &mut [u8]) -> bool
     ensures { λ r. ⌜ ReadsOctets (now (t .entry)) (now (dst .entry)) r (now (dst .exit)) ⌝ }
 {
     let n = t.len() / 2;
+    let most = fitting(n, dst.len());
     let mut j = 0;
-    while j < n {
-        if dst.len() <= j {
-            return false;
-        }
+    while j < most {
         let a = digit(t[j + j]);
         if 15 < a {
             return false;
@@ -121,6 +119,9 @@ pub fn read_octets(t: &[u8], dst: &mut [u8]) -> bool
         }
         dst[j] = a * 16 + b;
         j += 1;
+    }
+    if most < n {
+        return false;
     }
     t.len() % 2 == 0
 }

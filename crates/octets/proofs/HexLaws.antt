@@ -1,6 +1,6 @@
 -- Laws of hexadecimal text: an octet is read from two digits and written as two digits, so each turn takes or gives two.
 -- Assumes nothing.
-use Prim.Native.Nat.{ℕ, _+_, _/_, _%_, _≤_, _<_}
+use Prim.Native.Nat.{ℕ, _+_, _-_, _/_, _%_, _≤_, _<_}
 use mathlib.Core.Path.{_≡_, refl, ap}
 use mathlib.Core.List.{List, [], _∷_, _++_}
 use mathlib.Core.Bool.{Bool, true, false, cond}
@@ -9,16 +9,16 @@ use lib.Seq.{take-all, take-suc}
 use lib.Dec.{ltb, leb}
 use native.Mathlib.Numerals.{add-one}
 use native.Mathlib.Omega.{arith}
-use borrow.Author.Tests.{leb-true}
+use borrow.Author.Tests.{leb-true, lt-ltb, le-ltb, le-leb, lt-leb}
 use Rattle.octets.specs.Append.{Appends}
-use Rattle.octets.specs.Hex.{hexValue, octetsOf, Valued, hexDigit, hexText}
-use Rattle.octets.proofs.CaseLaws.{by-bool}
+use Rattle.octets.specs.Hex.{isHexDigit, hexValue, octetsOf, digitIn, hexDigit, hexText}
+use Rattle.octets.proofs.CaseLaws.{by-bool, by-lt}
 use Rattle.octets.proofs.AppendLaws.{append-nil, append-then}
 
 cond-low : (t : Bool) (x y : ℕ) → (t ≡ true → x < 16) → (t ≡ false → y < 16) → cond t x y < 16
 cond-low t x y f g = by-bool t _ (λ p. rw p (f p)) (λ p. rw p (g p))
 
-value-low : (b : ℕ) → hexValue b < 16
+pub value-low : (b : ℕ) → hexValue b < 16
 unfolding hexValue
 value-low b =
     cond-low (ltb b 48) _ _ (λ p. omega arith)
@@ -28,8 +28,46 @@ value-low b =
     (λ s. cond-low (ltb b 97) _ _ (λ t. omega arith)
     (λ t. cond-low (leb b 102) _ _ (λ u. omega (arith, leb-true b 102 u)) (λ u. omega arith))))))
 
-pub valued : (b r : ℕ) → r ≡ hexValue b → Valued b r
-valued b r e = record { is = e; low = rw e (value-low b) }
+-- ---- a digit's value, by the range it is in
+module _ (b : ℕ) where
+  pub digit-decimal : 48 ≤ b → b ≤ 57 → b - 48 ≡ digitIn b
+  unfolding digitIn isHexDigit hexValue
+  digit-decimal h k = rw (le-ltb b 48 h, le-leb b 57 k)
+
+  pub digit-upper : 65 ≤ b → b ≤ 70 → b - 55 ≡ digitIn b
+  unfolding digitIn isHexDigit hexValue
+  digit-upper h k = rw (le-ltb b 48 (omega arith), lt-leb b 57 (omega arith), le-ltb b 65 h, le-leb b 70 k)
+
+  pub digit-lower : 97 ≤ b → b ≤ 102 → b - 87 ≡ digitIn b
+  unfolding digitIn isHexDigit hexValue
+  digit-lower h k =
+      rw (le-ltb b 48 (omega arith), lt-leb b 57 (omega arith), le-ltb b 65 (omega arith), lt-leb b 70 (omega arith), le-ltb b 97 h, le-leb 97 b h, le-leb b 102 k)
+
+  pub digit-none : (48 ≤ b → 57 < b) → (65 ≤ b → 70 < b) → (97 ≤ b → 102 < b) → 16 ≡ digitIn b
+  unfolding digitIn isHexDigit
+  digit-none f g h =
+      by-lt b 48 _ (λ p. rw (lt-ltb b 48 p)) λ p.
+      by-lt b 65 _ (λ q. rw (le-ltb b 48 p, lt-leb b 57 (f p), lt-ltb b 65 q)) λ q.
+      rw (le-ltb b 48 p, lt-leb b 57 (f p), le-ltb b 65 q, lt-leb b 70 (g q))
+      (by-lt b 97 _ (λ r. rw (lt-leb 97 b r)) λ r. rw (le-leb 97 b r, lt-leb b 102 (h r)))
+
+pub ruleset digits = (digit-decimal, digit-upper, digit-lower, digit-none)
+
+-- a is what `digit` says of b
+module _ (b a : ℕ) (e : a ≡ digitIn b) where
+  pub none-digit : 15 < a → isHexDigit b ≡ false
+  unfolding digitIn
+  none-digit h =
+      by-bool (isHexDigit b) _
+      (λ p. let z : a ≡ hexValue b = rw p at e in absurd (omega (arith, value-low b)))
+      (λ p. p)
+
+  pub some-digit : a ≤ 15 → (isHexDigit b ≡ true) × (a ≡ hexValue b)
+  unfolding digitIn
+  some-digit h =
+      by-bool (isHexDigit b) _
+      (λ p. (p, rw p at e))
+      (λ p. let z : a ≡ 16 = rw p at e in absurd (omega arith))
 
 pub length-octets : (s : List ℕ) (w : ℕ) → w ≡ length s / 2 → length (octetsOf s) ≡ w
 unfolding octetsOf

@@ -1,6 +1,5 @@
 -- Hexadecimal text: digits of either case, two for an octet; written in upper case.
-use Prim.Native.Nat.{ℕ, _+_, _-_, _*_, _/_, _%_, _<_}
-use mathlib.Core.Path.{_≡_}
+use Prim.Native.Nat.{ℕ, _+_, _-_, _*_, _/_, _%_}
 use mathlib.Core.List.{List, [], _∷_}
 use mathlib.Core.Bool.{Bool, true, false, _&&_, cond}
 use lib.ListN.{length}
@@ -40,10 +39,9 @@ octetsOf [] = []
 octetsOf (a ∷ []) = []
 octetsOf (a ∷ b ∷ s) = (hexValue a * 16 + hexValue b) ∷ octetsOf s
 
--- r is the value of b; the bound follows, and is here for callers
-pub record Valued (b r : ℕ) : Type 0 where
-  pub is : r ≡ hexValue b
-  pub low : r < 16
+-- for the code: the value of a digit; 16 for an octet that is none
+unfoldable pub digitIn : ℕ → ℕ
+digitIn b = cond (isHexDigit b) (hexValue b) 16
 
 -- the digit that stands for d, in upper case
 unfoldable pub hexDigit : ℕ → ℕ

@@ -3,51 +3,23 @@ ghost use mathlib.Core.Path.{_≡_};
 ghost use mathlib.Core.List.{[], _∷_};
 ghost use Prim.Native.Nat.{_<_};
 ghost use Rattle.octets.specs.Append.{Appends};
-ghost use Rattle.octets.specs.Hex.{isHexDigit, Valued, hexDigit, hexText};
+ghost use Rattle.octets.specs.Hex.{digitIn, hexDigit, hexText};
 use crate::append;
 
-// b is a digit, of either case.
-pub fn is_hex_digit(b: u8) -> bool
-    ensures { λ r. ⌜ r ≡ isHexDigit b ⌝ }
+// The value of a digit, of either case; 16 for an octet that is none.
+pub fn digit(b: u8) -> u8
+    ensures { λ r. ⌜ r ≡ digitIn b ⌝ }
 {
-    if b < 48 {
-        return false;
-    }
-    if b <= 57 {
-        return true;
-    }
-    if b < 65 {
-        return false;
-    }
-    if b <= 70 {
-        return true;
-    }
-    97 <= b && b <= 102
-}
-
-// A digit's value; 0 for an octet that is no digit.
-pub fn hex_value(b: u8) -> u8
-    ensures { λ r. ⌜ Valued b r ⌝ }
-{
-    if b < 48 {
-        return 0;
-    }
-    if b <= 57 {
+    if 48 <= b && b <= 57 {
         return b - 48;
     }
-    if b < 65 {
-        return 0;
-    }
-    if b <= 70 {
+    if 65 <= b && b <= 70 {
         return b - 55;
     }
-    if b < 97 {
-        return 0;
-    }
-    if b <= 102 {
+    if 97 <= b && b <= 102 {
         return b - 87;
     }
-    0
+    16
 }
 
 // The digit that stands for d.

@@ -28,14 +28,14 @@ returns-2 c = search (picks, needs)
 loop-holds : tie.Need-loop-holds Inv-loop μ-loop
 loop-holds c = search (groupRead, needs)
 
-shared-slice-read-b : tie.Need-shared-slice-read-b Inv-loop μ-loop
-shared-slice-read-b c = search needs
+shared-slice-read-digit : tie.Need-shared-slice-read-digit Inv-loop μ-loop
+shared-slice-read-digit c = search needs
 
-is-hex-digit-requires : tie.Need-is-hex-digit-requires Inv-loop μ-loop
-is-hex-digit-requires c κs = search needs
+digit-requires : tie.Need-digit-requires Inv-loop μ-loop
+digit-requires c κs = search needs
 
-hex-value-requires : tie.Need-hex-value-requires Inv-loop μ-loop
-hex-value-requires c κs = search needs
+returns-3 : tie.Need-returns-3 Inv-loop μ-loop
+returns-3 c = search (groupRead, needs)
 
 mul-n : tie.Need-mul-n Inv-loop μ-loop
 mul-n c = search (mul-fits, needs)
@@ -55,9 +55,6 @@ loop-less c = search needs
 loop-again : tie.Need-loop-again Inv-loop μ-loop
 loop-again c = search (groupRead, needs)
 
-returns-3 : tie.Need-returns-3 Inv-loop μ-loop
-returns-3 c = search (groupRead, needs)
-
 returns-4 : tie.Need-returns-4 Inv-loop μ-loop
 returns-4 c = search (groupRead, needs)
 
@@ -70,14 +67,13 @@ read-group-spec =
     returns
     returns-2
     loop-holds
-    shared-slice-read-b
-    is-hex-digit-requires
-    hex-value-requires
+    shared-slice-read-digit
+    digit-requires
+    returns-3
     mul-n
     cast-n
     add-n
     add-i
     loop-less
     loop-again
-    returns-3
     returns-4)
