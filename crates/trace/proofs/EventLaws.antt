@@ -5,7 +5,7 @@ use mathlib.Core.Path.{_≡_, refl, sym, ap, _∙_}
 use mathlib.Core.List.{List, [], _∷_, _++_, append-assoc}
 use mathlib.Core.Bool.{Bool, true, false, cond}
 use mathlib.Core.Option.{Option, none, some}
-use lib.ListN.{length, take, drop, replicate, length-drop, take-append-drop}
+use lib.ListN.{length, take, drop, length-drop, take-append-drop}
 use lib.Seq.{take-at, length-take-le}
 use native.Mathlib.Omega.{arith}
 use borrow.Rule.Slice.PartMut.{midOf, putMid}
@@ -40,16 +40,18 @@ use Rattle.notation.proofs.OctetsLaws.{read-back, read-wrong}
 use Rattle.trace_read.specs.declared.Asked.{Asked}
 use Rattle.trace_read.specs.declared.Asked.the-variants as reading
 use Rattle.trace_read.specs.declared.Lent as places
-use Rattle.trace_read.specs.Events.{eventIn, messageBy}
+use Rattle.trace_read.specs.Events.{messageBy}
 use Rattle.trace_read.specs.Lending.{Lent, lentIn}
 use Rattle.trace_read.specs.Meaning.{askedBy, Asks, lentBy}
 use Rattle.trace_write.specs.Words.{kindWord}
 use Rattle.trace_write.specs.Lines.{kindOf, headText, eventText}
 use Rattle.trace_write.specs.Detail.{detailText}
 use Rattle.trace.specs.declared.Phase.the-variants.{Running}
+use Rattle.trace.specs.declared.events.Ready.{Ready}
+use Rattle.trace.specs.declared.events.Ready.the-variants as ready
 use Rattle.trace.specs.declared.Stepped.{Stepped}
 use Rattle.trace.specs.Trace.{verdictOn, octetsIn, lineText, judged, handled, askedIn, lentTo, following, ran}
-use Rattle.trace.specs.Meaning.{traceIn, Does, Passes, writtenBy, forceBy, DidFront, Hearable}
+use Rattle.trace.specs.Meaning.{traceIn, Does, Passes, readyBy, writtenBy, forceBy, DidFront}
 
 -- ---- an endpoint's book
 state-by : (st : State) (s : Side) (q : Stream) (b : Bearer) → stateOf (bookBy st s q b) ≡ st
@@ -112,12 +114,12 @@ front-octets (refusal n) w room = refl
 front-octets (answer s n o d) w room = rw append-assoc (take-at o _ (length o) refl)
 
 module _ (self : Endpoint) (call : Call) (m room room′ out out′ : List ℕ) (w n at k : ℕ) (d : Bool) (r : Answer) where
-  pub handled-is : DidFront self (eventOf call m) w room room′ r → w ≤ length room
+  given : DidFront self (eventOf call m) w room room′ r → w ≤ length room
       → Appends out at (lineText d n (some (eventOf call [])) (self .state) (r .reply) (take (writtenBy (r .reply)) room′) (forceBy (r .endpoint))) k out′
       → Does (configInside (self .config)) (handled d (configurationBy (self .config)) (bookOf self) n (some (eventOf call m)) room w) room′ out out′ at
       (record { session = record { phase = Running; number = n; endpoint = r .endpoint }; at = k })
   unfolding handled judged verdictOn traceIn
-  handled-is h l a =
+  given h l a =
       let c = configurationBy (self .config) in
       let e = length-take-le w room l in
       let v = rule c (bookOf self) (record { event = eventOf call m; room = w }) in
@@ -133,6 +135,13 @@ module _ (self : Endpoint) (call : Call) (m room room′ out out′ : List ℕ) 
         inside = λ b. rw (g .config) b;
       }
 
+  -- as many octets are lent as are asked for and there
+  pub handled-is : (asked : ℕ) → DidFront self (eventOf call m) w room room′ r → w ≡ min asked (length room)
+      → Appends out at (lineText d n (some (eventOf call [])) (self .state) (r .reply) (take (writtenBy (r .reply)) room′) (forceBy (r .endpoint))) k out′
+      → Does (configInside (self .config)) (handled d (configurationBy (self .config)) (bookOf self) n (some (eventOf call m)) room (min asked (length room))) room′ out out′ at
+      (record { session = record { phase = Running; number = n; endpoint = r .endpoint }; at = k })
+  handled-is asked h l a = rw (← l) (given h (omega arith) a)
+
 -- ---- a line that is no event
 pub passed-is : (self : Endpoint) (out g out′ : List ℕ) (n at k k₂ : ℕ) (d : Bool)
     → Appends g k (cond d (detailText [] (forceBy self)) [] ++ (10 ∷ [])) k₂ out′
@@ -147,61 +156,48 @@ passed-is self out g out′ n at k k₂ d b a room w =
       inside = λ b. b;
     }
 
--- ---- a message, whose octets were read into 600 zeros
-module _ (self : Endpoint) (t f room out out′ : List ℕ) (w n at : ℕ) (d u : Bool) (r : Stepped) (p : ReadsOctets t (replicate 600 0) u f) where
-  pub heard-is : (m room′ : List ℕ) → u ≡ true → m ≡ take (length t / 2) f
-      → Does (configInside (self .config)) (handled d (configurationBy (self .config)) (bookOf self) n (some (eventOf Message m)) room w) room′ out out′ at r
-      → Does (configInside (self .config)) (handled d (configurationBy (self .config)) (bookOf self) n (messageBy t) room w) room′ out out′ at r
-  unfolding messageBy
-  heard-is m room′ y q x =
-      let (h, e) = read-back t (replicate 600 0) f (rw y at p) in
-      rw h (rw (q, e) at x)
+-- ---- reading a line: f is the buffer that then has the octets of a message
+module _ (t l f : List ℕ) (u : Bool) (p : ReadsOctets t l u f) where
+  pub message-is : u ≡ true → readyBy f (ready.Event Message (length t / 2)) ≡ messageBy t
+  unfolding readyBy messageBy
+  message-is y = let (h, e) = read-back t l f (rw y at p) in rw (h, e)
 
-  pub unheard-is : u ≡ false → Hearable t room w → Passes d self n out out′ at r
-      → Does (configInside (self .config)) (handled d (configurationBy (self .config)) (bookOf self) n (messageBy t) room w) room out out′ at r
-  unfolding messageBy
-  unheard-is y h x = rw (read-wrong t (replicate 600 0) f (rw y at p) (h .octets)) (x room w)
+  pub message-not : u ≡ false → length t / 2 ≤ length l → readyBy f ready.Nothing ≡ messageBy t
+  unfolding readyBy messageBy
+  message-not y h = rw (read-wrong t l f (rw y at p) h)
 
--- ---- a line, once what it asks for is taken off
-module _ (self : Endpoint) (s room out out′ : List ℕ) (asked n at : ℕ) (d : Bool) (r : Stepped) where
-  pub broken-is : (whole : Bool) → whole ≡ false → Passes d self n out out′ at r
-      → Does (configInside (self .config)) (lentTo d (configurationBy (self .config)) (bookOf self) n whole room (record { room = asked; text = s })) room out out′ at r
-  unfolding lentTo askedIn
-  broken-is whole h x = rw h (x room (min asked (length room)))
+pub ruleset messages = (message-is, message-not)
 
-  module _ (whole : Bool) (y : Asked) (h : whole ≡ true) (e : Asks s y) where
-    pub nothing-is : y ≡ reading.Nothing → Passes d self n out out′ at r
-        → Does (configInside (self .config)) (lentTo d (configurationBy (self .config)) (bookOf self) n whole room (record { room = asked; text = s })) room out out′ at r
-    unfolding lentTo askedIn askedBy
-    nothing-is q x =
-        let i : askedBy s y ≡ eventIn s = e .is in
-        let z : none ≡ eventIn s = rw q at i in
-        rw (h, ← z) (x room (min asked (length room)))
+module _ (s f : List ℕ) (whole : Bool) where
+  pub line-broken : whole ≡ false → readyBy f ready.Nothing ≡ askedIn whole s
+  unfolding readyBy askedIn
+  line-broken h = rw h
 
-    pub event-is : (call : Call) (w : ℕ) (m room′ : List ℕ) → y ≡ reading.Event call → w ≡ min asked (length room) → m ≡ []
-        → Does (configInside (self .config)) (handled d (configurationBy (self .config)) (bookOf self) n (some (eventOf call m)) room w) room′ out out′ at r
-        → Does (configInside (self .config)) (lentTo d (configurationBy (self .config)) (bookOf self) n whole room (record { room = asked; text = s })) room′ out out′ at r
-    unfolding lentTo askedIn askedBy
-    event-is call w m room′ q p o x =
-        let i : askedBy s y ≡ eventIn s = e .is in
-        let z : some (eventOf call []) ≡ eventIn s = rw q at i in
-        rw (h, ← z, ← p) (rw o at x)
+  module _ (y : Asked) (h : whole ≡ true) (e : Asks s y) where
+    asks : (x : Asked) → y ≡ x → askedIn whole s ≡ askedBy s x
+    unfolding askedIn
+    asks x q = rw (h, ← q) (sym (e .is))
 
-    pub digits-is : (w : ℕ) (t room′ : List ℕ) → y ≡ reading.Digits → w ≡ min asked (length room) → t ≡ drop 2 s
-        → Does (configInside (self .config)) (handled d (configurationBy (self .config)) (bookOf self) n (messageBy t) room w) room′ out out′ at r
-        → Does (configInside (self .config)) (lentTo d (configurationBy (self .config)) (bookOf self) n whole room (record { room = asked; text = s })) room′ out out′ at r
-    unfolding lentTo askedIn askedBy
-    digits-is w t room′ q p o x =
-        let i : askedBy s y ≡ eventIn s = e .is in
-        let z : messageBy (drop 2 s) ≡ eventIn s = rw q at i in
-        rw (h, ← z, ← p, ← o) x
+    pub line-event : (call : Call) → y ≡ reading.Event call → readyBy f (ready.Event call 0) ≡ askedIn whole s
+    unfolding readyBy askedBy
+    line-event call q = rw (asks (reading.Event call) q)
 
--- its digits are few
-pub hearable : (s t room : List ℕ) (asked w : ℕ) (y : Asked) → Asks s y → y ≡ reading.Digits → t ≡ drop 2 s → w ≡ min asked (length room) → Hearable t room w
-hearable s t room asked w y e q o p =
-    let k = e .short q in
-    let z : length t ≡ length s - 2 = rw o (length-drop 2 s) in
-    record { octets = omega arith; lendable = omega arith }
+    pub line-message : y ≡ reading.Digits → (t : List ℕ) → t ≡ drop 2 s → (r : Ready) → readyBy f r ≡ messageBy t → readyBy f r ≡ askedIn whole s
+    unfolding askedBy
+    line-message q t o r p = rw (asks reading.Digits q, ← o) p
+
+    pub line-nothing : y ≡ reading.Nothing → readyBy f ready.Nothing ≡ askedIn whole s
+    unfolding readyBy askedBy
+    line-nothing q = rw (asks reading.Nothing q)
+
+    -- its digits are few
+    pub line-fits : y ≡ reading.Digits → (t : List ℕ) → t ≡ drop 2 s → (n : ℕ) → 600 ≤ n → length t / 2 ≤ n
+    line-fits q t o n l =
+        let k = e .short q in
+        let z : length t ≡ length s - 2 = rw o (length-drop 2 s) in
+        omega arith
+
+pub ruleset readies = (line-broken, line-event, line-message, line-nothing, line-fits)
 
 -- ---- numbers
 pub number-more : (n : ℕ) → n < 2 ^ 64 - 1 → n + 1 ≡ following n
@@ -214,13 +210,27 @@ number-last n h = rw (le-ltb n (2 ^ 64 - 1) h)
 
 pub ruleset numbers = (number-more, number-last)
 
--- ---- any line behind the configuration
-pub ran-is : (self : Endpoint) (line s room room′ out out′ : List ℕ) (number n at : ℕ) (d whole : Bool) (p : places.Lent) (r : Stepped)
-    → lentBy line p ≡ lentIn d line → s ≡ drop (p .at) line → n ≡ following number
-    → Does (configInside (self .config)) (lentTo d (configurationBy (self .config)) (bookOf self) n whole room (record { room = p .room; text = s })) room′ out out′ at r
-    → Does (configInside (self .config)) (ran d (configurationBy (self .config)) (bookOf self) number (record { text = line; whole = whole }) room) room′ out out′ at r
-unfolding ran lentBy
-ran-is self line s room room′ out out′ number n at d whole p r e q h x = rw (← e, ← q, ← h) x
+-- ---- any line after the configuration: y is what it asks for
+module _ (self : Endpoint) (line s f room out out′ : List ℕ) (number n at : ℕ) (d whole : Bool) (p : places.Lent) (y : Ready) (r : Stepped)
+    (e : lentBy line p ≡ lentIn d line) (q : s ≡ drop (p .at) line) (g : n ≡ following number) (is : readyBy f y ≡ askedIn whole s) where
+  ran-as : (x : Option Event) → readyBy f y ≡ x
+      → ran d (configurationBy (self .config)) (bookOf self) number (record { text = line; whole = whole }) room
+      ≡ handled d (configurationBy (self .config)) (bookOf self) n x room (min (p .room) (length room))
+  unfolding ran lentTo lentBy
+  ran-as x h = rw (← e, ← q, ← g, ← is, h)
+
+  pub ran-event : (call : Call) (len : ℕ) (m room′ : List ℕ) → y ≡ ready.Event call len → m ≡ take len f
+      → Does (configInside (self .config)) (handled d (configurationBy (self .config)) (bookOf self) n (some (eventOf call m)) room (min (p .room) (length room))) room′ out out′ at r
+      → Does (configInside (self .config)) (ran d (configurationBy (self .config)) (bookOf self) number (record { text = line; whole = whole }) room) room′ out out′ at r
+  unfolding readyBy
+  ran-event call len m room′ h k x = rw (ran-as (some (eventOf call m)) (rw (h, k))) x
+
+  pub ran-nothing : y ≡ ready.Nothing → Passes d self n out out′ at r
+      → Does (configInside (self .config)) (ran d (configurationBy (self .config)) (bookOf self) number (record { text = line; whole = whole }) room) room out out′ at r
+  unfolding readyBy
+  ran-nothing h x = rw (ran-as none (rw h)) (x room (min (p .room) (length room)))
+
+pub ruleset runs = (ran-event, ran-nothing)
 
 -- the line of an event that has given its answer
 pub answer-line : (call : Call) (state : State) (r : Answer) (room o out g out′ : List ℕ) (n at k k₂ w : ℕ) (d : Bool)
@@ -232,7 +242,3 @@ unfolding lineText
 answer-line call state r room o out g out′ n at k k₂ w d b a p q = rw (← q, ← p) (append-then out g out′ _ _ at k k₂ b a)
 
 pub ruleset mores = (more-yes, more-no)
-
-pub ruleset hears = (heard-is, unheard-is)
-
-pub ruleset answers = (broken-is, nothing-is, event-is, digits-is)

@@ -1,10 +1,10 @@
 -- What the structs of this crate stand for, and what a step of the code does.
-use Prim.Native.Nat.{ℕ, _/_, _≤_}
+use Prim.Native.Nat.{ℕ}
 use mathlib.Core.Path.{_≡_}
 use mathlib.Core.List.{List, _++_}
 use mathlib.Core.Bool.{Bool, true}
 use mathlib.Core.Option.{Option, none, some}
-use lib.ListN.{length, take, drop}
+use lib.ListN.{take, drop}
 use Rattle.octets.specs.Append.{Appends}
 use Rattle.book.specs.Book.{idle}
 use Rattle.book.specs.States.{holdsAt}
@@ -17,10 +17,13 @@ use Rattle.endpoint.specs.declared.Endpoint.{Endpoint}
 use Rattle.endpoint.specs.declared.Answer.{Answer}
 use Rattle.endpoint.specs.declared.Reply.{Reply}
 use Rattle.endpoint.specs.declared.Reply.the-variants.{Refused, Done}
+use Rattle.endpoint.specs.Call.{eventOf}
 use Rattle.endpoint.specs.Rule.{Event}
 use Rattle.endpoint.specs.Step.{bookOf, Did}
 use Rattle.trace.specs.declared.Phase.{Phase}
 use Rattle.trace.specs.declared.Phase.the-variants.{Start, Configuring, Running, Stopped}
+use Rattle.trace.specs.declared.events.Ready.{Ready}
+use Rattle.trace.specs.declared.events.Ready.the-variants as ready
 use Rattle.trace.specs.declared.Session.{Session}
 use Rattle.trace.specs.declared.Stepped.{Stepped}
 use Rattle.trace.specs.Trace.{Trace, start, configuring, running, stopped, Step, handled, going}
@@ -81,7 +84,7 @@ pub record DidFront (self : Endpoint) (e : Event) (w : ℕ) (room room′ : List
   pub did : Did self e (take w room) front r
   pub whole : room′ ≡ front ++ drop w room
 
--- the octets of a message whose digits are t find room, and so do w octets in the buffer
-pub record Hearable (t room : List ℕ) (w : ℕ) : Type 0 where
-  pub octets : length t / 2 ≤ 600
-  pub lendable : w ≤ length room
+-- the event of a line, where f is the buffer that has the octets of a message
+unfoldable pub readyBy : List ℕ → Ready → Option Event
+readyBy f (ready.Event call len) = some (eventOf call (take len f))
+readyBy f ready.Nothing = none

@@ -3,7 +3,7 @@ ghost use mathlib.Core.Path.{_≡_};
 ghost use mathlib.Core.Bool.{cond};
 ghost use mathlib.Core.List.{[], _∷_, _++_};
 ghost use mathlib.Core.Option.{some};
-ghost use Prim.Native.Nat.{_≤_, min};
+ghost use Prim.Native.Nat.{_≤_, _/_, min};
 ghost use lib.ListN.{length, take};
 ghost use Rattle.octets.specs.Append.{Appends};
 ghost use Rattle.book.specs.States.{holdsAt};
@@ -13,8 +13,8 @@ ghost use Rattle.endpoint.specs.Call.{eventOf};
 ghost use Rattle.endpoint.specs.Step.{bookOf};
 ghost use Rattle.trace_read.specs.Events.{messageBy};
 ghost use Rattle.trace_write.specs.Detail.{detailText};
-ghost use Rattle.trace.specs.Trace.{lineText, handled, lentTo, following, ran};
-ghost use Rattle.trace.specs.Meaning.{Does, Passes, DidFront, Hearable, writtenBy, forceBy};
+ghost use Rattle.trace.specs.Trace.{lineText, handled, askedIn, following, ran};
+ghost use Rattle.trace.specs.Meaning.{Does, Passes, DidFront, readyBy, writtenBy, forceBy};
 use crate::Phase;
 use crate::Session;
 use crate::Stepped;
@@ -39,6 +39,13 @@ use trace_write::lines::push_event;
 
 // Room for the octets of the longest message that a line can hold.
 const MOST_MESSAGE: usize = MOST_LINE / 2;
+
+// What a line asks of the endpoint, with a message's digits read.
+enum Ready {
+    // An event. The octets of a message, len of them, stand at the front of a buffer.
+    Event { call: Call, len: usize },
+    Nothing,
+}
 
 // How many octets of a buffer of n are lent where `asked` are asked for.
 fn lent_of(n: usize, asked: usize) -> usize
@@ -129,7 +136,7 @@ fn push_answer(
     push_end(detailed, up_to(room, written_by(reply)), endpoint, out, k)
 }
 
-// Event n, with the first w octets of room.
+// Event n, with as many octets of room as are asked for and there.
 fn handle(
     endpoint: Endpoint,
     n: u64,
@@ -137,14 +144,14 @@ fn handle(
     call: Call,
     m: &[u8],
     room: &mut [u8],
-    w: usize,
+    asked: usize,
     out: &mut [u8],
     at: usize,
 ) -> Stepped
-    requires { ⌜ w ≤ length (now room) ⌝ }
-    ensures { λ r. ⌜ Does (configInside (endpoint .config)) (handled detailed (configurationBy (endpoint .config)) (bookOf endpoint) n (some (eventOf call (now (m .entry)))) (now (room .entry)) w) (now (room .exit)) (now (out .entry)) (now (out .exit)) at r ⌝ }
+    ensures { λ r. ⌜ Does (configInside (endpoint .config)) (handled detailed (configurationBy (endpoint .config)) (bookOf endpoint) n (some (eventOf call (now (m .entry)))) (now (room .entry)) (min asked (length (now (room .entry))))) (now (room .exit)) (now (out .entry)) (now (out .exit)) at r ⌝ }
 {
     let state = endpoint.state;
+    let w = lent_of(room.len(), asked);
     let answer = give(endpoint, call, m, room, w);
     let k = push_answer(n, call, state, answer, detailed, room, out, at);
     let left = answer.endpoint;
@@ -158,52 +165,34 @@ fn handle(
     }
 }
 
-// Event n, a message whose digits are t.
-fn hear(
-    endpoint: Endpoint,
-    n: u64,
-    detailed: bool,
-    t: &[u8],
-    room: &mut [u8],
-    w: usize,
-    out: &mut [u8],
-    at: usize,
-) -> Stepped
-    requires { ⌜ Hearable (now t) (now room) w ⌝ }
-    ensures { λ r. ⌜ Does (configInside (endpoint .config)) (handled detailed (configurationBy (endpoint .config)) (bookOf endpoint) n (messageBy (now (t .entry))) (now (room .entry)) w) (now (room .exit)) (now (out .entry)) (now (out .exit)) at r ⌝ }
+// The event of a message whose digits are t, if they are such.
+fn read_message(t: &[u8], octets: &mut [u8]) -> Ready
+    requires { ⌜ length (now t) / 2 ≤ length (now octets) ⌝ }
+    ensures { λ r. ⌜ readyBy (now (octets .exit)) r ≡ messageBy (now (t .entry)) ⌝ }
 {
-    let mut octets = [0u8; MOST_MESSAGE];
-    if read_octets(t, &mut octets) {
-        let m = up_to(&octets, t.len() / 2);
-        return handle(endpoint, n, detailed, Call::Message, m, room, w, out, at);
+    if read_octets(t, octets) {
+        return Ready::Event {
+            call: Call::Message,
+            len: t.len() / 2,
+        };
     }
-    pass(endpoint, n, detailed, out, at)
+    Ready::Nothing
 }
 
-// Line n: s is its text without the prefix that names the length of a buffer, `asked` that length.
-fn answer(
-    endpoint: Endpoint,
-    n: u64,
-    detailed: bool,
-    s: &[u8],
-    whole: bool,
-    asked: usize,
-    room: &mut [u8],
-    out: &mut [u8],
-    at: usize,
-) -> Stepped
-    ensures { λ r. ⌜ Does (configInside (endpoint .config)) (lentTo detailed (configurationBy (endpoint .config)) (bookOf endpoint) n whole (now (room .entry)) (record { room = asked; text = now (s .entry) })) (now (room .exit)) (now (out .entry)) (now (out .exit)) at r ⌝ }
+// The event of the line s, which stands without the prefix that names the length of a buffer.
+fn read_line(s: &[u8], whole: bool, octets: &mut [u8]) -> Ready
+    requires { ⌜ 600 ≤ length (now octets) ⌝ }
+    ensures { λ r. ⌜ readyBy (now (octets .exit)) r ≡ askedIn whole (now (s .entry)) ⌝ }
 {
     if whole {
         let x = read_event(s);
-        let w = lent_of(room.len(), asked);
         return match x {
-            Asked::Event(call) => handle(endpoint, n, detailed, call, b"", room, w, out, at),
-            Asked::Digits => hear(endpoint, n, detailed, after(s, 2), room, w, out, at),
-            Asked::Nothing => pass(endpoint, n, detailed, out, at),
+            Asked::Event(call) => Ready::Event { call, len: 0 },
+            Asked::Digits => read_message(after(s, 2), octets),
+            Asked::Nothing => Ready::Nothing,
         };
     }
-    pass(endpoint, n, detailed, out, at)
+    Ready::Nothing
 }
 
 // The number after n.
@@ -217,7 +206,7 @@ fn next_number(n: u64) -> u64
 }
 
 impl Session {
-    // A line behind the configuration.
+    // A line after the configuration.
     pub(crate) fn run(
         self,
         detailed: bool,
@@ -230,9 +219,13 @@ impl Session {
         ensures { λ r. ⌜ Does (configInside (self .endpoint .config)) (ran detailed (configurationBy (self .endpoint .config)) (bookOf (self .endpoint)) (self .number) (record { text = now (line .entry); whole = whole }) (now (room .entry))) (now (room .exit)) (now (out .entry)) (now (out .exit)) at r ⌝ }
     {
         let lent = lend(detailed, line);
-        let s = after(line, lent.at);
         let n = next_number(self.number);
         let endpoint = self.endpoint;
-        answer(endpoint, n, detailed, s, whole, lent.room, room, out, at)
+        let mut octets = [0u8; MOST_MESSAGE];
+        let Ready::Event { call, len } = read_line(after(line, lent.at), whole, &mut octets) else {
+            return pass(endpoint, n, detailed, out, at);
+        };
+        let m = up_to(&octets, len);
+        handle(endpoint, n, detailed, call, m, room, lent.room, out, at)
     }
 }

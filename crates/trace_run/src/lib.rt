@@ -16,9 +16,8 @@ pub const MOST_DETAIL: usize = 4096;
 // trace at most 894 digits of a message stand behind it, and under 700 octets of a bearer.
 const LINE_ROOM: usize = 8192;
 
-// What is kept from octet to octet.
-struct State {
-    session: Session,
+// What is kept from line to line beside the session.
+struct Progress {
     // The line that is being gathered (`line_input::gather`).
     len: usize,
     over: bool,
@@ -27,17 +26,30 @@ struct State {
     going: bool,
 }
 
-fn start() -> State {
-    State {
-        session: Session::new(),
+// What is kept from one read to the next.
+struct State {
+    session: Session,
+    progress: Progress,
+}
+
+// A new line is gathered, and `at` octets wait to be written.
+fn new_line(at: usize, going: bool) -> Progress {
+    Progress {
         len: 0,
         over: false,
-        output: Output { at: 0, taken: true },
-        going: true,
+        output: Output { at, taken: true },
+        going,
     }
 }
 
-// The trace goes on behind this phase.
+fn start() -> State {
+    State {
+        session: Session::new(),
+        progress: new_line(0, true),
+    }
+}
+
+// The trace goes on after this phase.
 fn goes_on(phase: Phase) -> bool {
     match phase {
         Phase::Start => true,
@@ -47,36 +59,11 @@ fn goes_on(phase: Phase) -> bool {
     }
 }
 
-// Answers the line that was gathered, and begins the next. A line that no LF ended, or that is too long, is not whole.
-fn step_line(
-    state: State,
-    ended: bool,
-    detailed: bool,
-    line: &[u8],
-    room: &mut [u8],
-    out: &mut [u8],
-) -> State {
-    let session = state.session;
-    let whole = ended && !state.over;
-    let mut output = state.output;
-    let stepped = session.step(
-        detailed,
-        up_to(line, state.len),
-        whole,
-        room,
-        out,
-        output.at,
-    );
-    let left = stepped.session;
-    let phase = left.phase;
-    output.at = stepped.at;
-    State {
-        session: left,
-        len: 0,
-        over: false,
-        output: make_room(out, output, LINE_ROOM),
-        going: goes_on(phase),
-    }
+// A line has been answered and has left this phase and `at` octets to write: room is made for the next.
+fn answered(phase: Phase, at: usize, out: &[u8]) -> Progress {
+    let mut progress = new_line(at, goes_on(phase));
+    progress.output = make_room(out, progress.output, LINE_ROOM);
+    progress
 }
 
 // The lines that end in part, and the beginning of the next. (`next` is always past i; the `if` shows that the loop ends.)
@@ -88,23 +75,28 @@ fn feed(
     room: &mut [u8],
     out: &mut [u8],
 ) -> State {
-    let mut st = state;
+    let mut session = state.session;
+    let mut progress = state.progress;
     let mut i = 0;
-    while i < part.len() && st.going && st.output.taken {
-        let g = gather(part, i, line, st.len, st.over);
+    while i < part.len() && progress.going && progress.output.taken {
+        let g = gather(part, i, line, progress.len, progress.over);
         let next = g.next;
         if next <= i {
             break;
         }
         i = next;
-        st.len = g.len;
-        st.over = g.over;
+        progress.len = g.len;
+        progress.over = g.over;
         if g.ended {
-            st = step_line(st, true, detailed, line, room, out);
+            let text = up_to(line, g.len);
+            let stepped = session.step(detailed, text, !g.over, room, out, progress.output.at);
+            session = stepped.session;
+            let phase = session.phase;
+            progress = answered(phase, stepped.at, out);
             continue;
         }
     }
-    st
+    State { session, progress }
 }
 
 // The input goes on no more; where it can't be read, standard error is told.
@@ -112,6 +104,16 @@ fn tell_end(got: isize) {
     if got < 0 {
         io::write_all(STDERR_FILENO, b"the input can't be read\n");
     }
+}
+
+// The output that waits is written.
+fn flushed(progress: Progress, out: &[u8]) -> Progress {
+    let mut p = progress;
+    let output = p.output;
+    if output.taken {
+        p.output = flush(out, output);
+    }
+    p
 }
 
 // Reads once, and answers what came.
@@ -124,34 +126,54 @@ fn turn(
     room: &mut [u8],
     out: &mut [u8],
 ) -> State {
-    let mut st = state;
     let got = libc::read(fd, part);
     if got <= 0 {
         tell_end(got);
-        st.going = false;
-        return st;
+        let session = state.session;
+        let mut progress = state.progress;
+        progress.going = false;
+        return State { session, progress };
     }
     let n = io::count(got, part);
-    st = feed(st, detailed, &part[..n], line, room, out);
-    if st.output.taken {
-        st.output = flush(out, st.output);
+    let fed = feed(state, detailed, &part[..n], line, room, out);
+    let session = fed.session;
+    let progress = fed.progress;
+    State {
+        session,
+        progress: flushed(progress, out),
     }
-    st
 }
 
 // Answers a line that no LF ended, if there is one.
 fn end_line(state: State, detailed: bool, line: &[u8], room: &mut [u8], out: &mut [u8]) -> State {
-    if state.len == 0 {
+    let progress = state.progress;
+    let len = progress.len;
+    if len == 0 {
         return state;
     }
-    step_line(state, false, detailed, line, room, out)
+    let session = state.session;
+    let stepped = session.step(
+        detailed,
+        up_to(line, len),
+        false,
+        room,
+        out,
+        progress.output.at,
+    );
+    let left = stepped.session;
+    let phase = left.phase;
+    State {
+        session: left,
+        progress: answered(phase, stepped.at, out),
+    }
 }
 
 // Answers what is left at the end of the input: such a line, and a configuration that no event followed.
 fn finish(state: State, detailed: bool, line: &[u8], room: &mut [u8], out: &mut [u8]) {
     let st = end_line(state, detailed, line, room, out);
     let session = st.session;
-    let mut output = st.output;
+    let progress = st.progress;
+    let mut output = progress.output;
     output.at = session.finish(out, output.at);
     flush(out, output);
 }
@@ -171,11 +193,11 @@ pub fn run(
 {
     let mut st = start();
     let mut turns = u64::MAX;
-    while turns > 0 && st.going && st.output.taken {
+    while turns > 0 && st.progress.going && st.progress.output.taken {
         st = turn(fd, st, detailed, part, line, room, out);
         turns -= 1;
     }
-    if st.output.taken {
+    if st.progress.output.taken {
         finish(st, detailed, line, room, out);
     }
 }

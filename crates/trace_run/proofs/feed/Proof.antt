@@ -1,18 +1,17 @@
--- `feed` meets its contract. Each turn keeps the buffers' lengths and goes on in the part.
+-- `feed` meets its contract. Each turn keeps the lengths of the buffers and goes on in the part.
 -- Assumes nothing.
-use Prim.Native.Nat.{_-_}
-use mathlib.Core.Path.{_≡_}
-use lib.ListN.{length}
 use borrow.Author.Needs.{needs}
 use Rattle.trace_run.proofs.feed.Statement.{statement}
 use Rattle.trace_run.proofs.feed.Tie as tie
+use Prim.Native.Nat.{_-_}
+use mathlib.Core.Path.{_≡_}
+use lib.ListN.{length}
 
 abbrev Inv-loop : tie.InvT-loop
-Inv-loop detailed part line₀ room₀ out₀ st₀ i₀ line room out st i =
-    (length line ≡ length line₀) × (length room ≡ length room₀) × (length out ≡ length out₀)
+Inv-loop detailed part line₀ room₀ out₀ session₀ progress₀ i₀ line room out session progress i = (length line ≡ length line₀) × (length room ≡ length room₀) × (length out ≡ length out₀)
 
 abbrev μ-loop : tie.MeasureT-loop
-μ-loop detailed part line₀ room₀ out₀ st₀ i₀ line room out st i = length part - i
+μ-loop detailed part line₀ room₀ out₀ session₀ progress₀ i₀ line room out session progress i = length part - i
 
 loop-holds : tie.Need-loop-holds Inv-loop μ-loop
 loop-holds c = search needs
@@ -20,14 +19,20 @@ loop-holds c = search needs
 gather-requires : tie.Need-gather-requires Inv-loop μ-loop
 gather-requires c κs = search needs
 
-step-line-requires : tie.Need-step-line-requires Inv-loop μ-loop
-step-line-requires c κs = search needs
+up-to-requires : tie.Need-up-to-requires Inv-loop μ-loop
+up-to-requires c κs = search needs
+
+step-requires : tie.Need-step-requires Inv-loop μ-loop
+step-requires c κs = search needs
+
+answered-requires : tie.Need-answered-requires Inv-loop μ-loop
+answered-requires c κs = search needs
 
 loop-less : tie.Need-loop-less Inv-loop μ-loop
-loop-less c = search needs
+loop-less c = let p = c .before .before .before .before .before .before .before .before .before .before .before .before in search needs
 
 loop-again : tie.Need-loop-again Inv-loop μ-loop
-loop-again c = let p = c .before .before .before .before .before .before .before .before in search needs
+loop-again c = let p = c .before .before .before .before .before .before .before .before .before .before .before .before in search needs
 
 loop-less-2 : tie.Need-loop-less-2 Inv-loop μ-loop
 loop-less-2 c = search needs
@@ -91,7 +96,9 @@ feed-spec =
     μ-loop
     loop-holds
     gather-requires
-    step-line-requires
+    up-to-requires
+    step-requires
+    answered-requires
     loop-less
     loop-again
     loop-less-2

@@ -1,9 +1,12 @@
 -- `events::handle` meets its contract. What the endpoint did is what the definition prints.
 -- Assumes nothing.
 use borrow.Author.Needs.{needs}
-use Rattle.trace.proofs.EventLaws.{handled-is}
 use Rattle.trace.proofs.events.handle.Statement.{statement}
 use Rattle.trace.proofs.events.handle.Tie as tie
+use Rattle.trace.proofs.EventLaws.{handled-is}
+
+lent-of-requires : tie.Need-lent-of-requires
+lent-of-requires c κs = search needs
 
 give-requires : tie.Need-give-requires
 give-requires c κs = search needs
@@ -22,4 +25,11 @@ returns c = search (handled-is, needs)
 
 pub handle-spec : {M : Type 1} → statement M
 handle-spec =
-    tie.close (tie.spec give-requires push-answer-requires same-length same-length-2 returns)
+    tie.close
+    (tie.spec
+    lent-of-requires
+    give-requires
+    push-answer-requires
+    same-length
+    same-length-2
+    returns)
