@@ -10,7 +10,7 @@ use lib.Dec.{leb}
 use native.Mathlib.Omega.{arith}
 use borrow.Author.Tests.{le-leb, lt-leb, eq-eqb, ne-eqb}
 use Rattle.octets.specs.declared.Span.{Span}
-use Rattle.octets.specs.Append.{widthFrom, numberText, Width}
+use Rattle.octets.specs.Append.{widthFrom, numberText}
 use Rattle.octets.specs.Spans.{textOf}
 use Rattle.octets.proofs.AppendLaws.{width-one, width-suc, length-last}
 use Rattle.octets.proofs.CaseLaws.{by-le}
@@ -18,7 +18,7 @@ use Rattle.media.specs.declared.Texts.{Texts}
 use Rattle.media.specs.declared.Stream.{Stream as Places}
 use Rattle.media.specs.Stream.{mostAttributes, attributeText, rtpmapText, fmtpText, rtpmapLines, fmtpLines, octetsTogether, attributesFit}
 use Rattle.media.specs.Meaning.{spansOf, textsBy, streamBy}
-use Rattle.media.specs.Capped.{capped}
+use Rattle.media.specs.Capped.{capped, Width}
 
 -- ---- how many digits a payload has
 pub width-1 : (n : ℕ) → n < 10 → Width n 1

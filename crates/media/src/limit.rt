@@ -2,11 +2,10 @@
 ghost use mathlib.Core.Path.{_≡_};
 ghost use mathlib.Core.List.{map};
 ghost use lib.ListN.{length};
-ghost use Rattle.octets.specs.Append.{Width};
 ghost use Rattle.octets.specs.Spans.{textOf};
 ghost use Rattle.media.specs.Stream.{fmtpText, rtpmapLines, octetsTogether, attributesFit};
 ghost use Rattle.media.specs.Meaning.{textsBy, streamBy};
-ghost use Rattle.media.specs.Capped.{capped};
+ghost use Rattle.media.specs.Capped.{capped, Width};
 use crate::MOST_ATTRIBUTES;
 use crate::Stream;
 use crate::Texts;

@@ -1,50 +1,52 @@
--- Laws of appending: what is left to append and where it goes fix the answer, so each step keeps both; a number is its last digits, put from the right.
+-- Laws of appending: a text is put as far as there is room, and what is left to put goes after what is there; a number is its last digits, put from the right.
 -- Assumes nothing.
 use Prim.Native.Nat.{ℕ, zero, suc, _+_, _-_, _/_, _%_, _≤_, _<_, min}
 use mathlib.Core.Path.{_≡_, refl, sym, ap, _∙_}
-use mathlib.Core.List.{List, [], _∷_, _++_}
-use lib.ListN.{length, getD, take, drop, set, length-set, length-append, length-take, drop-of-length-le}
-use lib.Seq.{take-all, take-nil, take-append-le, take-append-add, take-at}
+use mathlib.Core.List.{List, [], _∷_, _++_, append-assoc, append-nil as append-empty}
+use lib.ListN.{length, getD, take, drop, set, length-set, length-append, length-take, length-drop, drop-of-length-le}
+use lib.Seq.{take-all, take-nil, take-append-le, take-append-add}
+use native.Mathlib.Nat.{add-zero}
 use native.Mathlib.Numerals.{add-one, sub-one}
 use native.Mathlib.Omega.{arith}
 use borrow.Author.Tests.{lt-ltb, le-ltb}
-use Rattle.octets.specs.Append.{put, nextOf, appended, Appends, widthFrom, numberText, Width}
+use Rattle.octets.specs.Append.{put, nextOf, appended, Appends, widthFrom, numberText, Tail}
 use Rattle.octets.specs.Decimal.{lastDigits}
 use Rattle.octets.proofs.CaseLaws.{by-lt}
-use Rattle.octets.proofs.Laws.{next, put-nil, put-snoc, put-cons, length-put, put-append}
+use Rattle.octets.proofs.Laws.{next, drop-set-here, put-nil, put-cons, length-put, put-append}
 
-next-more : (k n d : ℕ) → k < n → k + min (n - k) (suc d) ≡ k + 1 + min (n - (k + 1)) d
-next-more k n d h = omega arith
+-- What is left of src at j goes to at + j of the buffer, which has l. The call was `copy(src, l₀, at)`.
+module _ (src l l₀ : List ℕ) (at j : ℕ) (inv : put l (at + j) (drop j src) ≡ put l₀ at src) where
+  pub copy-turn : j < length src → at + length src ≤ length l₀ → length l ≡ length l₀ → put (set l (at + j) (getD src j 0)) (at + (j + 1)) (drop (j + 1) src) ≡ put l₀ at src
+  copy-turn h r e =
+      let z : at + (j + 1) ≡ at + j + 1 = omega arith in
+      rw z (sym (put-cons l (at + j) (getD src j 0) (drop (j + 1) src) (omega arith)) ∙ rw (next src j h) at inv)
 
--- What is left of src at j goes to k of the buffer, which has l. The call was `push(src, l₀, at)`.
-module _ (src l l₀ : List ℕ) (at j k : ℕ)
-    (inv : nextOf (length l) k (drop j src) ≡ nextOf (length l₀) at src) (buf : appended l k (drop j src) ≡ appended l₀ at src) where
-  pub push-end : length src ≤ j → Appends l₀ at src k l
+  pub copy-end : length src ≤ j → l ≡ put l₀ at src
+  copy-end h = sym (put-nil l (at + j)) ∙ rw (drop-of-length-le src h) at inv
+
+pub copy-start : (src l : List ℕ) (at : ℕ) → put l (at + 0) (drop 0 src) ≡ put l at src
+copy-start src l at = rw add-zero
+
+pub ruleset copying = (copy-turn, copy-end, copy-start)
+
+-- a text that finds no room
+pub push-none : (l : List ℕ) (at : ℕ) (vs : List ℕ) → length l ≤ at → Appends l at vs at l
+unfolding nextOf appended
+push-none l at vs h =
+    let z : length l - at ≡ 0 = omega arith in
+    record { next = omega arith; leaves = rw z (sym (put-nil l at)) }
+
+-- src is put at `at` of the buffer l as far as there is room, which leaves f
+module _ (src l f : List ℕ) (at : ℕ) where
+  pub push-cut : length l - at < length src → f ≡ put l at (take (length l - at - 0) (drop 0 src)) → Appends l at src (at + (length l - at)) f
   unfolding nextOf appended
-  push-end h =
-      let z : k + min (length l - k) 0 ≡ at + min (length l₀ - at) (length src) = rw (drop-of-length-le src h) at inv in
-      record { next = omega arith; leaves = sym (put-nil l k) ∙ rw (drop-of-length-le src h, take-nil) at buf }
+  push-cut h e = let z : length l - at - 0 ≡ length l - at = omega arith in record { next = omega arith; leaves = rw z at e }
 
-  pub push-full : length l ≤ k → Appends l₀ at src k l
+  pub push-whole : length src ≤ length l - at → f ≡ put l at src → Appends l at src (at + length src) f
   unfolding nextOf appended
-  push-full h =
-      let q : length l - k ≡ 0 = omega arith in
-      let z : k + min 0 (length (drop j src)) ≡ at + min (length l₀ - at) (length src) = rw q at inv in
-      record { next = omega arith; leaves = sym (put-nil l k) ∙ rw q at buf }
+  push-whole h e = record { next = omega arith; leaves = rw (take-all (length l - at) src h) e }
 
-  pub push-turn : j < length src → k < length l → nextOf (length (set l k (getD src j 0))) (k + 1) (drop (j + 1) src) ≡ nextOf (length l₀) at src
-  unfolding nextOf
-  push-turn h g =
-      let z : k + min (length l - k) (suc (length (drop (j + 1) src))) ≡ at + min (length l₀ - at) (length src) = rw (next src j h) at inv in
-      rw length-set (sym (next-more k (length l) (length (drop (j + 1) src)) g) ∙ z)
-
-  pub push-turn-f : j < length src → k < length l → appended (set l k (getD src j 0)) (k + 1) (drop (j + 1) src) ≡ appended l₀ at src
-  unfolding appended
-  push-turn-f h g =
-      let q : length l - k ≡ suc (length l - (k + 1)) = omega arith in
-      rw length-set (sym (put-cons l k (getD src j 0) (take (length l - (k + 1)) (drop (j + 1) src)) g) ∙ rw (next src j h, q) at buf)
-
-pub ruleset pushing = (push-end, push-full, push-turn, push-turn-f)
+pub ruleset pushing = (push-none, push-cut, push-whole)
 
 -- nothing appended
 pub append-nil : (l : List ℕ) (at : ℕ) → Appends l at [] at l
@@ -117,69 +119,50 @@ pub width-suc : (e m : ℕ) → 10 ≤ m → widthFrom (suc e) m ≡ suc (widthF
 unfolding widthFrom
 width-suc e m h = rw (le-ltb m 10 h)
 
--- the digits that are counted
-module _ (n m e : ℕ) (inv : e + widthFrom (19 - e) m ≡ widthFrom 19 n) (b : e ≤ 19) where
-  pub width-last : m < 10 → Width n (e + 1)
-  width-last h = record { is = rw (width-one (19 - e) m h) at inv; few = omega arith }
-
-  pub width-more : 10 ≤ m → e < 19 → e + 1 + widthFrom (19 - (e + 1)) (m / 10) ≡ widthFrom 19 n
-  width-more h k =
-      let q : 19 - e ≡ suc (19 - (e + 1)) = omega arith in
-      let z : e + suc (widthFrom (19 - (e + 1)) (m / 10)) ≡ widthFrom 19 n = rw (q, width-suc (19 - (e + 1)) m h) at inv in
-      omega arith
-
-  pub width-most : 19 ≤ e → Width n (e + 1)
-  unfolding widthFrom
-  width-most h =
-      let q : 19 - e ≡ 0 = omega arith in
-      record { is = rw q at inv; few = omega arith }
-
-pub ruleset widening = (width-last, width-more, width-most)
-
 pub length-last : (k n : ℕ) → length (lastDigits k n) ≡ k
 unfolding lastDigits
 length-last zero n = refl
 length-last (suc k) n = simp (length-append, length-last k (n / 10), add-one)
 
--- One turn: k + 1 digits of m are left to put, and the last of them is put at at + k. f is the buffer at the end.
-pub put-last-turn : (l f : List ℕ) (at k m : ℕ) → put l at (lastDigits k m) ≡ f → 0 < k → at + k ≤ length l
-    → put (set l (at + (k - 1)) (48 + m % 10)) at (lastDigits (k - 1) (m / 10)) ≡ f
-unfolding lastDigits
-put-last-turn l f at zero m e p h = absurd (omega arith)
-put-last-turn l f at (suc k) m e p h =
-    let step = put-snoc l at (lastDigits k (m / 10)) (48 + m % 10) (simp length-last (omega arith)) in
-    simp sub-one (sym (simp length-last at step) ∙ e)
+-- The last digits of n are in d after its place k, and m is what is left of n.
+module _ (n m k : ℕ) (d : List ℕ) (inv : lastDigits (widthFrom k m) m ++ drop (k + 1) d ≡ numberText n) (room : k < length d) where
+  pub number-turn : 0 < k → 9 < m → lastDigits (widthFrom (k - 1) (m / 10)) (m / 10) ++ drop (k - 1 + 1) (set d k (48 + m % 10)) ≡ numberText n
+  unfolding lastDigits
+  number-turn h g =
+      let z : k - 1 + 1 ≡ k = omega arith in
+      rw (z, drop-set-here d k (48 + m % 10) room) (simp (one-more k h, append-assoc, add-one) at inv)
+    where
+      one-more : (k : ℕ) → 0 < k → widthFrom k m ≡ suc (widthFrom (k - 1) (m / 10))
+      one-more zero h = absurd (omega arith)
+      one-more (suc e) h = simp sub-one (width-suc e m g)
 
-pub put-last-done : (l f : List ℕ) (at k m : ℕ) → put l at (lastDigits k m) ≡ f → k ≤ 0 → l ≡ f
-unfolding lastDigits
-put-last-done l f at zero m e p = sym (put-nil l at) ∙ e
-put-last-done l f at (suc k) m e p = absurd (omega arith)
+  pub number-last : (0 < k → m ≤ 9) → Tail (set d k (48 + m % 10)) k (numberText n)
+  unfolding lastDigits widthFrom
+  number-last h =
+      record {
+        inside = rw length-set (omega arith);
+        is = rw (drop-set-here d k (48 + m % 10) room) (rw (only k h, add-one) at inv);
+      }
+    where
+      only : (k : ℕ) → (0 < k → m ≤ 9) → widthFrom k m ≡ 1
+      only zero h = refl
+      only (suc e) h = let z = h (omega arith) in width-one (suc e) m (omega arith)
 
-pub ruleset putting = (put-last-turn, put-last-done)
+pub number-start : (n : ℕ) (d : List ℕ) → length d ≡ 20 → lastDigits (widthFrom 19 n) n ++ drop 20 d ≡ numberText n
+unfolding numberText
+number-start n d h = let k : length d ≤ 20 = omega arith in rw (drop-of-length-le d k, append-empty)
 
--- the digits of n, in an array of their own
-pub number-pushed : (d d′ l g : List ℕ) (n w at r : ℕ) → Width n w → d′ ≡ put d 0 (lastDigits w n) → Appends l at (take (w - 0) (drop 0 d′)) r g
+-- the digits of n, in the end of an array
+pub number-pushed : (d l g : List ℕ) (n k at r : ℕ) → Tail d k (numberText n) → length d ≡ 20 → Appends l at (take (20 - k) (drop k d)) r g
     → Appends l at (numberText n) r g
-unfolding numberText put
-number-pushed d d′ l g n w at r e p a =
-    let z : take (w - 0) (drop 0 d′) ≡ numberText n =
-    let o : w - 0 ≡ w = omega arith in
-    rw (o, p, ← e .is) (take-at (lastDigits w n) (drop (0 + length (lastDigits w n)) d) w (length-last w n)) in
-    rw z at a
+number-pushed d l g n k at r e h a = rw (take-all (20 - k) (drop k d) (omega (arith, length-drop k d)), e .is) at a
 
 -- one octet
-module _ (l : List ℕ) (at b : ℕ) where
-  pub octet-yes : at < length l → Appends l at (b ∷ []) (at + 1) (set l at b)
-  unfolding nextOf appended
-  octet-yes h =
-      let q : length l - at ≡ suc (length l - (at + 1)) = omega arith in
-      record { next = omega arith; leaves = sym (rw q (ap (λ (z : List ℕ). put l at (b ∷ z)) (take-nil (length l - (at + 1))) ∙ put-cons l at b [] h ∙ put-nil (set l at b) (at + 1))) }
-
-  pub octet-no : length l ≤ at → Appends l at (b ∷ []) at l
-  unfolding nextOf appended
-  octet-no h =
-      let q : length l - at ≡ 0 = omega arith in
-      record { next = omega arith; leaves = rw q (sym (put-nil l at)) }
+pub octet-yes : (l : List ℕ) (at b : ℕ) → at < length l → Appends l at (b ∷ []) (at + 1) (set l at b)
+unfolding nextOf appended
+octet-yes l at b h =
+    let q : length l - at ≡ suc (length l - (at + 1)) = omega arith in
+    record { next = omega arith; leaves = sym (rw q (ap (λ (z : List ℕ). put l at (b ∷ z)) (take-nil (length l - (at + 1))) ∙ put-cons l at b [] h ∙ put-nil (set l at b) (at + 1))) }
 
 -- one octet, and a text
 pub octet-then : (l f g : List ℕ) (at k r b : ℕ) (s : List ℕ) → Appends g k s r f → Appends l at (b ∷ []) k g → Appends l at (b ∷ s) r f

@@ -4,7 +4,7 @@ use Prim.Native.Nat.{ℕ, zero, suc, _+_, _-_, _≤_, _<_}
 use mathlib.Core.Path.{_≡_, refl, sym, ap, _∙_}
 use mathlib.Core.List.{List, [], _∷_, _++_, append-nil, append-assoc}
 use lib.ListN.{length, getD, take, drop, set, length-append, length-take, length-drop, take-append-drop}
-use lib.Seq.{drop-cons, take-set-le, drop-set-lt, take-suc-set, drop-drop, length-take-le, take-nil, take-all, take-at, drop-at}
+use lib.Seq.{drop-cons, drop-set-lt, take-suc-set, drop-drop, length-take-le, take-nil, take-all, take-at, drop-at}
 use native.Mathlib.Nat.{add-zero, add-suc, suc-add, not-suc-le-zero, le-of-suc-le-suc, add-assoc, sub-zero}
 use native.Mathlib.Numerals.{add-one}
 use native.Mathlib.Omega.{arith}
@@ -31,18 +31,13 @@ pub put-nil : (l : List ℕ) (at : ℕ) → put l at [] ≡ l
 unfolding put
 put-nil l at = simp (add-zero, append-nil, take-append-drop)
 
-drop-set-here : (l : List ℕ) (i d : ℕ) → i < length l → drop i (set l i d) ≡ d ∷ drop (suc i) l
+-- an octet written, and what is after it
+pub drop-set-here : (l : List ℕ) (i d : ℕ) → i < length l → drop i (set l i d) ≡ d ∷ drop (suc i) l
 drop-set-here [] i d h = absurd (not-suc-le-zero h)
 drop-set-here (x ∷ xs) zero d h = refl
 drop-set-here (x ∷ xs) (suc i) d h = drop-set-here xs i d (le-of-suc-le-suc h)
 
--- one octet more at the right end
-pub put-snoc : (l : List ℕ) (at : ℕ) (vs : List ℕ) (d : ℕ) → at + length vs < length l → put l at (vs ++ (d ∷ [])) ≡ put (set l (at + length vs) d) at vs
-unfolding put
-put-snoc l at vs d h =
-    simp (append-assoc, length-append, add-one, add-suc, take-set-le at l (at + length vs) d (omega arith), drop-set-here l (at + length vs) d h)
-
--- one octet more at the left end
+-- one octet, and those after it
 pub put-cons : (l : List ℕ) (at : ℕ) (d : ℕ) (vs : List ℕ) → at < length l → put l at (d ∷ vs) ≡ put (set l at d) (at + 1) vs
 unfolding put
 put-cons l at d vs h =

@@ -33,7 +33,7 @@ widthFrom (suc e) n = cond (ltb n 10) 1 (suc (widthFrom e (n / 10)))
 unfoldable pub numberText : ℕ → List ℕ
 numberText n = lastDigits (widthFrom 19 n) n
 
--- r is that many digits; the bound follows, and is here for callers
-pub record Width (n r : ℕ) : Type 0 where
-  pub is : r ≡ widthFrom 19 n
-  pub few : r ≤ 20
+-- for the code: s is the end of d, from r on
+pub record Tail (d : List ℕ) (r : ℕ) (s : List ℕ) : Type 0 where
+  pub inside : r ≤ length d
+  pub is : drop r d ≡ s

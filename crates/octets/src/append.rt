@@ -4,26 +4,36 @@ ghost use mathlib.Core.List.{[], _∷_, _++_};
 ghost use mathlib.Core.Option.{some};
 ghost use Prim.Native.Nat.{_+_, _≤_};
 ghost use lib.ListN.{length};
-ghost use Rattle.octets.specs.Decimal.{lastDigits};
-ghost use Rattle.octets.specs.Append.{put, Appends, Width, numberText};
+ghost use Rattle.octets.specs.Append.{put, Appends, numberText, Tail};
 ghost use Rattle.octets.specs.Puts.{Puts};
 use crate::Put;
+
+// Puts src into out from `at` on.
+fn copy(src: &[u8], out: &mut [u8], at: usize)
+    requires { ⌜ at + length (now src) ≤ length (now out) ⌝ }
+    ensures { λ _. ⌜ now (out .exit) ≡ put (now (out .entry)) at (now (src .entry)) ⌝ }
+{
+    let mut j = 0;
+    while j < src.len() {
+        out[at + j] = src[j];
+        j += 1;
+    }
+}
 
 // Appends src to the `at` octets in out.
 pub fn push(src: &[u8], out: &mut [u8], at: usize) -> usize
     ensures { λ r. ⌜ Appends (now (out .entry)) at (now (src .entry)) r (now (out .exit)) ⌝ }
 {
-    let mut j = 0;
-    let mut k = at;
-    while j < src.len() {
-        if out.len() <= k {
-            return k;
-        }
-        out[k] = src[j];
-        j += 1;
-        k += 1;
+    if out.len() <= at {
+        return at;
     }
-    k
+    let room = out.len() - at;
+    if room < src.len() {
+        copy(&src[0..room], out, at);
+        return at + room;
+    }
+    copy(src, out, at);
+    at + src.len()
 }
 
 // Appends one octet.
@@ -37,34 +47,20 @@ pub fn push_octet(b: u8, out: &mut [u8], at: usize) -> usize
     at
 }
 
-// How many digits n has.
-fn width(n: u64) -> usize
-    ensures { λ r. ⌜ Width n r ⌝ }
+// Puts n's digits at the end of d, the last first. The answer is where they start.
+fn put_digits(n: u64, d: &mut [u8]) -> usize
+    requires { ⌜ length (now d) ≡ 20 ⌝ }
+    ensures { λ r. ⌜ Tail (now (d .exit)) r (numberText n) ⌝ }
 {
     let mut m = n;
-    let mut e = 0;
-    while e < 19 {
-        if m < 10 {
-            return e + 1;
-        }
+    let mut k = 19;
+    while 0 < k && 9 < m {
+        d[k] = 48 + (m % 10) as u8;
         m /= 10;
-        e += 1;
-    }
-    e + 1
-}
-
-// Puts n's last w digits into out from `at` on, the last first.
-fn put_digits(n: u64, out: &mut [u8], at: usize, w: usize)
-    requires { ⌜ at + w ≤ length (now out) ⌝ }
-    ensures { λ _. ⌜ now (out .exit) ≡ put (now (out .entry)) at (lastDigits w n) ⌝ }
-{
-    let mut m = n;
-    let mut k = w;
-    while 0 < k {
         k -= 1;
-        out[at + k] = 48 + (m % 10) as u8;
-        m /= 10;
     }
+    d[k] = 48 + (m % 10) as u8;
+    k
 }
 
 // Appends n as decimal text.
@@ -72,9 +68,8 @@ pub fn push_number(n: u64, out: &mut [u8], at: usize) -> usize
     ensures { λ r. ⌜ Appends (now (out .entry)) at (numberText n) r (now (out .exit)) ⌝ }
 {
     let mut d = [0u8; 20];
-    let w = width(n);
-    put_digits(n, &mut d, 0, w);
-    push(&d[0..w], out, at)
+    let k = put_digits(n, &mut d);
+    push(&d[k..20], out, at)
 }
 
 // Appends n as decimal text, and the octet b.

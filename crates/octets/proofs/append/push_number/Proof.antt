@@ -1,12 +1,9 @@
--- `append::push_number` meets its contract. The front of the array is the digits of the number, and that front is appended.
+-- `append::push_number` meets its contract. The end of the array is the text of the number, and that end is appended.
 -- Assumes nothing.
 use borrow.Author.Needs.{needs}
 use Rattle.octets.proofs.AppendLaws.{number-pushed}
 use Rattle.octets.proofs.append.push_number.Statement.{statement}
 use Rattle.octets.proofs.append.push_number.Tie as tie
-
-width-requires : tie.Need-width-requires
-width-requires c κs = search needs
 
 slice-aggregate-put-digits : tie.Need-slice-aggregate-put-digits
 slice-aggregate-put-digits c = search needs
@@ -36,7 +33,6 @@ pub push-number-spec : {M : Type 1} → statement M
 push-number-spec =
     tie.close
     (tie.spec
-    width-requires
     slice-aggregate-put-digits
     put-digits-requires
     sub-push
