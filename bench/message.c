@@ -1,33 +1,97 @@
-/* Reads one Request, as often as the first argument says. */
-#include <stdint.h>
+/*
+ * message FILE TURNS: has the message in FILE read, so many times; prints the answer, which must be the same each time.
+ * What reads it is chosen when this is built:
+ *   CARD    the card's reader: the number of the refusal, 256 for a version and type alone, or 1000 and the port
+ *   OSIP    libosip2's parser, its answer freed: 1 where the message is taken
+ *   SOFIA   Sofia-SIP's parser, the same
+ *   OCTETS  no reader: looks at each octet once, and counts the line ends
+ *   MEMCHR  the same by the C library's memchr, which looks at many octets at once
+ */
 #include <stdio.h>
 #include <stdlib.h>
+#include <string.h>
+
+#define ROOM 4096
+
+#if defined CARD
+#include <stdint.h>
 
 uint32_t card_message_read(const uint8_t *m, size_t n);
 
-static const char text[] =
-    "v=0\r\n"
-    "o=- 0 0 IN IP4 192.0.2.10\r\n"
-    "s= \r\n"
-    "c=IN IP4 192.0.2.10\r\n"
-    "t=0 0\r\n"
-    "a=ipbcp:1 Request\r\n"
-    "m=audio 4000 RTP/AVP 96\r\n"
-    "a=rtpmap:96 AMR/8000\r\n"
-    "a=fmtp:96 mode-set=0,2,4,7\r\n"
-    "a=ptime:20\r\n";
+static unsigned answer(const char *text, size_t octets)
+{
+    return card_message_read((const uint8_t *)text, octets);
+}
+#elif defined OSIP
+#include <osipparser2/osip_port.h>
+#include <osipparser2/sdp_message.h>
+
+/* Its texts end in 0, so the length is not asked for. */
+static unsigned answer(const char *text, size_t octets)
+{
+    sdp_message_t *m;
+    unsigned taken;
+
+    (void)octets;
+    if (sdp_message_init(&m) != 0)
+        exit(2);
+    taken = sdp_message_parse(m, text) == 0;
+    sdp_message_free(m);
+    return taken;
+}
+#elif defined SOFIA
+#include <sofia-sip/sdp.h>
+
+/* With no memory pool of the caller's, which would cost some 2,000 instructions more. */
+static unsigned answer(const char *text, size_t octets)
+{
+    sdp_parser_t *p = sdp_parse(NULL, text, (issize_t)octets, 0);
+    unsigned taken = sdp_session(p) != NULL;
+
+    sdp_parser_free(p);
+    return taken;
+}
+#elif defined OCTETS
+static unsigned answer(const char *text, size_t octets)
+{
+    unsigned lines = 0;
+
+    for (const char *end = text + octets; text < end; text++) {
+        if (*text == '\n')
+            lines++;
+    }
+    return lines;
+}
+#elif defined MEMCHR
+static unsigned answer(const char *text, size_t octets)
+{
+    unsigned lines = 0;
+    const char *end = text + octets, *lf;
+
+    for (; (lf = memchr(text, '\n', (size_t)(end - text))) != NULL; text = lf + 1)
+        lines++;
+    return lines;
+}
+#endif
 
 int main(int argc, char **argv)
 {
-    long turns = argc > 1 ? atol(argv[1]) : 1;
+    static char room[ROOM];
+    /* Read anew at each turn, so that no turn is left out. */
+    const char *volatile text = room;
+    FILE *file = argc == 3 ? fopen(argv[1], "rb") : NULL;
+    size_t octets;
+    unsigned first;
 
-    for (long i = 0; i < turns; i++) {
-        /* 1000 and the port */
-        if (card_message_read((const uint8_t *)text, sizeof text - 1) != 5000) {
-            fprintf(stderr, "the message was not read\n");
+    if (file == NULL)
+        return 2;
+    octets = fread(room, 1, ROOM - 1, file);
+    fclose(file);
+    first = answer(text, octets);
+    for (long turns = atol(argv[2]); turns > 1; turns--) {
+        if (answer(text, octets) != first)
             return 1;
-        }
     }
-    printf("%zu octets\n", sizeof text - 1);
+    printf("%u\n", first);
     return 0;
 }

@@ -1,39 +1,65 @@
 #!/usr/bin/env bash
-# trace.sh: how many instructions bearertrace takes for an event, how long, and how much memory. The events are those
-# of tests/vectors/plain-traces/5.in, repeated to some 15,000; callgrind counts the whole run. Then ten times as many
-# are run, for time and memory alone. No part of the gate. Needs valgrind beside rt.
+# trace.sh: how many instructions bearertrace takes for an event, how long, and how much memory, as a table; beside it
+# floor.c, which reads the same lines and prints as much, with no card. callgrind counts two runs of different length,
+# and what an event more takes is their difference. Time is that of the whole run, the least of several. No part of the
+# gate. Needs valgrind and a C compiler beside rt, and Linux.
 set -eu
+export LC_ALL=C
 root=$(cd "$(dirname "$0")/.." && pwd)
+. "$root/bench/inputs.sh"
+# events of the runs that are counted
+short=5000
+long=10000
+# events of the runs that are timed, and how often each is repeated
+few=10000
+few_times=100
+many=1000000
+many_times=5
 work=$(mktemp -d)
 trap 'rm -rf "$work"' EXIT
 log=$(cd "$root" && rt check bearertrace 2>&1) || {
     printf '%s\n' "$log" >&2
     exit 1
 }
-program=$root/target/bin/bearertrace
-trace=$root/tests/vectors/plain-traces/5.in
-
-# repeated N: the configuration, and the events so often that there are N or more
-repeated() {
-    awk -v n="$1" '
-        /^[GK]\t/ && !events { print; next }
-        { event[++events] = $0 }
-        END { while (printed < n) for (i = 1; i <= events; i++) { print event[i]; printed++ } }' "$trace"
-}
-repeated 15000 > "$work/short"
-repeated 150000 > "$work/long"
-events=$("$program" < "$work/short" | tail -n +2 | wc -l)
-count=$(valgrind --tool=callgrind --callgrind-out-file=/dev/null "$program" < "$work/short" 2>&1 > "$work/out" |
-    sed -n 's/.*Collected *: *//p')
-echo "$events events: $((count / events)) instructions an event"
+cc -std=c11 -O2 -Wall -Wextra "$root/bench/floor.c" -o "$work/floor"
+for n in $short $long $few $many; do
+    trace "$n" > "$work/$n"
+done
 mkfifo "$work/pipe"
-for size in short long; do
-    start=$(date +%s%N)
-    "$program" < "$work/$size" > /dev/null
-    took=$((($(date +%s%N) - start) / 1000000))
-    # The most memory that the program has held when all of the trace has gone into its pipe.
-    "$program" < "$work/pipe" > /dev/null &
-    most=$({ cat "$work/$size"; awk '/^VmHWM/ { print $2 }' "/proc/$!/status" >&3; } 3>&1 > "$work/pipe")
+
+# count PROGRAM EVENTS: the instructions of such a run
+count() {
+    valgrind --tool=callgrind --callgrind-out-file=/dev/null "$1" < "$work/$2" 2>&1 > /dev/null |
+        sed -n 's/.*Collected *: *//p'
+}
+# took PROGRAM EVENTS TIMES: nanoseconds an event, in the fastest of so many runs
+took() {
+    local least=0 start now turn
+    for ((turn = 0; turn < $3; turn++)); do
+        start=${EPOCHREALTIME/./}
+        "$1" < "$work/$2" > /dev/null
+        now=$((${EPOCHREALTIME/./} - start))
+        if [ $least -eq 0 ] || [ $now -lt $least ]; then least=$now; fi
+    done
+    echo $((least * 1000 / $2))
+}
+# memory PROGRAM EVENTS: the most KiB that it has held when all of the trace has gone into its pipe
+memory() {
+    "$1" < "$work/pipe" > /dev/null &
+    { cat "$work/$2"; awk '/^VmHWM/ { print $2 }' "/proc/$!/status" >&3; } 3>&1 > "$work/pipe"
     wait
-    echo "$(wc -c < "$work/$size") octets of trace: $took ms, $most KiB of memory at most"
+}
+bearertrace=$root/target/bin/bearertrace
+# A line for each event, after that of the names.
+printed=$("$bearertrace" < "$work/$few" | wc -l)
+if [ "$printed" != $((few + 1)) ]; then
+    echo "bearertrace prints $printed lines for $few events" >&2
+    exit 1
+fi
+echo "| an event | instructions | ns, of $few | ns, of $many | KiB, of $few | KiB, of $many |"
+echo "|---|---|---|---|---|---|"
+for program in "$bearertrace" "$work/floor"; do
+    instructions=$((($(count "$program" $long) - $(count "$program" $short)) / (long - short)))
+    echo "| \`$(basename "$program")\` | $instructions | $(took "$program" $few $few_times) |" \
+        "$(took "$program" $many $many_times) | $(memory "$program" $few) | $(memory "$program" $many) |"
 done
