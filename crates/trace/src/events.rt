@@ -220,12 +220,13 @@ impl Session {
     {
         let lent = lend(detailed, line);
         let n = next_number(self.number);
-        let endpoint = self.endpoint;
         let mut octets = [0u8; MOST_MESSAGE];
         let Ready::Event { call, len } = read_line(after(line, lent.at), whole, &mut octets) else {
+            let endpoint = self.endpoint;
             return pass(endpoint, n, detailed, out, at);
         };
         let m = up_to(&octets, len);
+        let endpoint = self.endpoint;
         handle(endpoint, n, detailed, call, m, room, lent.room, out, at)
     }
 }

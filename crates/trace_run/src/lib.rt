@@ -144,32 +144,32 @@ fn turn(
     }
 }
 
-// Answers a line that no LF ended, if there is one.
-fn end_line(state: State, detailed: bool, line: &[u8], room: &mut [u8], out: &mut [u8]) -> State {
-    let progress = state.progress;
-    let len = progress.len;
-    if len == 0 {
-        return state;
-    }
+// Answers a line that no LF ended, if there is one. It is not whole, as one that is too long; the LF only ends it here.
+fn end_line(
+    state: State,
+    detailed: bool,
+    line: &mut [u8],
+    room: &mut [u8],
+    out: &mut [u8],
+) -> State {
     let session = state.session;
-    let stepped = session.step(
+    let mut progress = state.progress;
+    if progress.len == 0 {
+        return State { session, progress };
+    }
+    progress.over = true;
+    feed(
+        State { session, progress },
         detailed,
-        up_to(line, len),
-        false,
+        b"\n",
+        line,
         room,
         out,
-        progress.output.at,
-    );
-    let left = stepped.session;
-    let phase = left.phase;
-    State {
-        session: left,
-        progress: answered(phase, stepped.at, out),
-    }
+    )
 }
 
 // Answers what is left at the end of the input: such a line, and a configuration that no event followed.
-fn finish(state: State, detailed: bool, line: &[u8], room: &mut [u8], out: &mut [u8]) {
+fn finish(state: State, detailed: bool, line: &mut [u8], room: &mut [u8], out: &mut [u8]) {
     let st = end_line(state, detailed, line, room, out);
     let session = st.session;
     let progress = st.progress;
