@@ -10,6 +10,7 @@ mod tunnel;
 mod values;
 mod walk;
 
+use bat::MOST_OCTETS;
 use libc::STDERR_FILENO;
 use libc::STDIN_FILENO;
 use line_output::Output;
@@ -139,12 +140,13 @@ fn run(part: &mut [u8], line: &mut [u8], data: &mut [u8], room: &mut [u8], out: 
     }
 }
 
-// A line has at most 16,384 octets with its LF, so its digits stand for fewer than 8,192.
+// A line has at most 16,384 octets with its LF, so its digits stand for fewer than 8,192. An element that is written has at most
+// 2,048 octets, so no more is lent of a longer buffer.
 fn main() {
     let mut part = io::large_buffer();
     let mut line = [0u8; 16383];
     let mut data = [0u8; 8192];
-    let mut room = io::large_buffer();
+    let mut room = [0u8; MOST_OCTETS];
     let mut out = io::large_buffer();
     run(&mut part, &mut line, &mut data, &mut room, &mut out);
 }

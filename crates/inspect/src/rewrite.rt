@@ -10,6 +10,7 @@ use bat::Framed;
 use bat::Reading;
 use bat::Value;
 use bat::framing;
+use notation::fitting;
 use notation::push_octets;
 use notation::push_refused;
 use octets::Number;
@@ -76,10 +77,7 @@ fn push_lent(
     out: &mut [u8],
     at: usize,
 ) -> usize {
-    let n = buffer as usize;
-    if room.len() < n {
-        return print::bad_line(out, at);
-    }
+    let n = fitting(buffer as usize, room.len());
     push_data(data, compatibility, &mut room[0..n], out, at)
 }
 

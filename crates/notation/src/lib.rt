@@ -91,7 +91,7 @@ pub fn push_refused(n: u8, out: &mut [u8], at: usize) -> usize
 }
 
 // How many of n octets find room in a buffer of `room`.
-fn fitting(n: usize, room: usize) -> usize
+pub fn fitting(n: usize, room: usize) -> usize
     ensures { λ r. ⌜ r ≡ min n room ⌝ }
 {
     if room < n {

@@ -25,6 +25,7 @@ use endpoint::Answer;
 use endpoint::Call;
 use endpoint::Endpoint;
 use endpoint::Reply;
+use notation::fitting;
 use notation::read_octets;
 use octets::append::push_octet;
 use octets::spans::after;
@@ -45,16 +46,6 @@ enum Ready {
     // An event. The octets of a message, len of them, stand at the front of a buffer.
     Event { call: Call, len: usize },
     Nothing,
-}
-
-// How many octets of a buffer of n are lent where `asked` are asked for.
-fn lent_of(n: usize, asked: usize) -> usize
-    ensures { λ r. ⌜ r ≡ min asked n ⌝ }
-{
-    if n < asked {
-        return n;
-    }
-    asked
 }
 
 // How many octets a reply says were written.
@@ -151,7 +142,7 @@ fn handle(
     ensures { λ r. ⌜ Does (configInside (endpoint .config)) (handled detailed (configurationBy (endpoint .config)) (bookOf endpoint) n (some (eventOf call (now (m .entry)))) (now (room .entry)) (min asked (length (now (room .entry))))) (now (room .exit)) (now (out .entry)) (now (out .exit)) at r ⌝ }
 {
     let state = endpoint.state;
-    let w = lent_of(room.len(), asked);
+    let w = fitting(asked, room.len());
     let answer = give(endpoint, call, m, room, w);
     let k = push_answer(n, call, state, answer, detailed, room, out, at);
     let left = answer.endpoint;

@@ -2,6 +2,7 @@
 // printed, at first plain; behind `octets` they are read one octet at a time.
 use libc::STDOUT_FILENO;
 use octets::words::equals;
+use trace_read::USUAL_ROOM;
 use trace_run::MOST_DETAIL;
 
 struct Manner {
@@ -106,7 +107,7 @@ fn run_all(part: &mut [u8], line: &mut [u8], room: &mut [u8], out: &mut [u8]) {
 fn main() {
     let mut part = io::large_buffer();
     let mut line = [0u8; MOST_DETAIL];
-    let mut room = io::large_buffer();
+    let mut room = [0u8; USUAL_ROOM];
     let mut out = io::large_buffer();
     run_all(&mut part, &mut line, &mut room, &mut out);
 }

@@ -3,14 +3,10 @@
 use borrow.Author.Needs.{needs}
 use Rattle.ipbcp.proofs.later_lines.Statement.{statement}
 use Rattle.ipbcp.proofs.later_lines.Tie as tie
-use Rattle.ipbcp.proofs.WholeLaws.{laters}
 use Rattle.sdp.proofs.CutLaws.{loop-falls}
 use Prim.Native.Nat.{_-_}
 use lib.ListN.{length}
 use Rattle.ipbcp.proofs.WholeLaws.{Leads, laters}
-
--- `later_lines` meets its contract: each turn reads one line, so the lines left make of the stream what all make of the first.
--- Assumes nothing.
 
 abbrev Inv-loop : tie.InvT-loop
 Inv-loop m from stream₀ i₀ stream i = Leads m stream i stream₀ from

@@ -1,4 +1,4 @@
--- `read_short` meets its contract: each turn reads one line, so the lines left make of the opening what all make of the first, up to the ipbcp line.
+-- `read_short` meets its contract: each turn reads one line, so the lines left make of the preamble what all make of the first, up to the ipbcp line.
 -- Assumes nothing.
 use borrow.Author.Needs.{needs}
 use Rattle.ipbcp.proofs.read_short.Statement.{statement}
@@ -12,9 +12,6 @@ use Rattle.ipbcp.specs.Whole.{wholeOf}
 use Prim.Native.Nat.{_-_}
 use mathlib.Core.Path.{_≡_}
 use lib.ListN.{length, drop}
-
--- `read_short` meets its contract: each turn reads one line, so the lines left make of the opening what all make of the first, up to the ipbcp line.
--- Assumes nothing.
 
 abbrev Inv-loop : tie.InvT-loop
 Inv-loop m p₀ i₀ p i = (wholeOf (preambleBy p) (drop i m) ≡ wholeOf start m) × (headIn (drop i m) ≡ headIn m)

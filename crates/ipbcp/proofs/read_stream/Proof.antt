@@ -1,4 +1,4 @@
--- `read_stream` meets its contract: each turn passes a line that says nothing over, up to the media line.
+-- `read_stream` meets its contract: each turn passes over a line that is skipped, up to the media line.
 -- Assumes nothing.
 use borrow.Author.Needs.{needs}
 use Rattle.ipbcp.proofs.read_stream.Statement.{statement}
@@ -7,9 +7,6 @@ use Rattle.ipbcp.proofs.WholeLaws.{Skips, streams}
 use Rattle.sdp.proofs.CutLaws.{loop-falls}
 use Prim.Native.Nat.{_-_}
 use lib.ListN.{length}
-
--- `read_stream` meets its contract: each turn passes a line that says nothing over, up to the media line.
--- Assumes nothing.
 
 abbrev Inv-loop : tie.InvT-loop
 Inv-loop m from i₀ i = Skips m i from

@@ -1,4 +1,4 @@
--- `types::read_head` meets its contract: a line that is no ipbcp line leaves version and type to the lines behind it.
+-- `types::read_head` meets its contract: a line that is no ipbcp line leaves version and type to the lines after it.
 -- Assumes nothing.
 use borrow.Author.Needs.{needs}
 use Rattle.ipbcp.proofs.types.read_head.Statement.{statement}
@@ -9,9 +9,6 @@ use Rattle.ipbcp.specs.Types.{headIn}
 use Prim.Native.Nat.{_-_}
 use mathlib.Core.Path.{_≡_}
 use lib.ListN.{length, drop}
-
--- `types::read_head` meets its contract: a line that is no ipbcp line leaves version and type to the lines behind it.
--- Assumes nothing.
 
 abbrev Inv-loop : tie.InvT-loop
 Inv-loop m i₀ i = headIn (drop i m) ≡ headIn m
