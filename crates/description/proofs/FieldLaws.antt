@@ -3,7 +3,7 @@
 use Prim.Native.Nat.{ℕ, min}
 use mathlib.Core.Path.{_≡_, refl, sym, _∙_}
 use mathlib.Core.List.{List, [], _∷_}
-use mathlib.Core.Bool.{Bool, true, false, cond, and-eq-true-iff}
+use mathlib.Core.Bool.{Bool, true, false, not, cond, and-eq-true-iff}
 use mathlib.Core.Option.{none, some, Option·map}
 use lib.Dec.{eqb}
 use native.Mathlib.Omega.{arith}
@@ -28,24 +28,19 @@ use Rattle.description.specs.Meaning.{preambleBy, extendedBy, between, i
 
 -- ---- lines that say nothing
 module _ (v : List ℕ) where
-  module _ (u : Bool) (one : u ≡ isAttribute v) where
-    pub skipped-attribute : (letter : ℕ) → letter ≡ 97 → (t : Bool) → t ≡ begins ipbcpWord v → t ≡ false → u ≡ true → false ≡ isSkipped letter v
-    unfolding isSkipped
-    skipped-attribute letter e t p n h = rw (e, ← p, n, ← one, h)
-
-    pub skipped-other : (letter : ℕ) → letter ≡ 97 → (t : Bool) → t ≡ begins ipbcpWord v → t ≡ false → u ≡ false → true ≡ isSkipped letter v
-    unfolding isSkipped
-    skipped-other letter e t p n h = rw (e, ← p, n, ← one, h)
+  pub skipped-attribute : (letter : ℕ) → letter ≡ 97 → (t : Bool) → t ≡ begins ipbcpWord v → t ≡ false → (u : Bool) → u ≡ isAttribute v → not u ≡ isSkipped letter v
+  unfolding isSkipped
+  skipped-attribute letter e t p n u one = rw (e, ← p, n, one)
 
   pub skipped-ipbcp : (letter : ℕ) → letter ≡ 97 → (t : Bool) → t ≡ begins ipbcpWord v → t ≡ true → false ≡ isSkipped letter v
   unfolding isSkipped
   skipped-ipbcp letter e t p h = rw (e, ← p, h)
 
-  pub skipped-skipped : (letter : ℕ) → (letter ≡ 97 → ⊥) → (w : Bool) → w ≡ has letter skippedLetters → w ≡ isSkipped letter v
+  pub skipped-letter : (letter : ℕ) → (letter ≡ 97 → ⊥) → (w : Bool) → w ≡ has letter skippedLetters → w ≡ isSkipped letter v
   unfolding isSkipped
-  skipped-skipped letter e w p = rw (ne-eqb letter 97 e) p
+  skipped-letter letter e w p = rw (ne-eqb letter 97 e) p
 
-pub ruleset skipping = (skipped-attribute, skipped-other, skipped-ipbcp, skipped-skipped)
+pub ruleset skipping = (skipped-attribute, skipped-ipbcp, skipped-letter)
 
 -- an attribute, or a letter that is skipped
 skipped-else : (d : Draft) (letter : ℕ) (v : List ℕ) → isIpbcp letter v ≡ false → eqb (d .had) 7 ≡ false

@@ -56,10 +56,7 @@ pub fn is_skipped(letter: u8, t: &[u8]) -> bool
     if starts(b"ipbcp:", t) {
         return false;
     }
-    if media::is_attribute(t) {
-        return false;
-    }
-    true
+    !media::is_attribute(t)
 }
 
 // The preamble p with the line of this letter whose value is t. The ipbcp line and the media line are no part of it.

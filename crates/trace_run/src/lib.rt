@@ -144,7 +144,8 @@ fn turn(
     }
 }
 
-// Answers a line that no LF ended, if there is one. It is not whole, as one that is too long; the LF only ends it here.
+// Answers a line that no LF ended, if there is one. It is not whole, like a line that is too long: so it is marked as that, and
+// the LF that it lacks is given here.
 fn end_line(
     state: State,
     detailed: bool,
@@ -158,6 +159,7 @@ fn end_line(
         return State { session, progress };
     }
     progress.over = true;
+    progress.going = true;
     feed(
         State { session, progress },
         detailed,

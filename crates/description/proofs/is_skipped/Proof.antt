@@ -26,9 +26,6 @@ is-attribute-requires c κs = search needs
 returns-3 : tie.Need-returns-3
 returns-3 c = search (skipping, needs)
 
-returns-4 : tie.Need-returns-4
-returns-4 c = search (skipping, needs)
-
 pub is-skipped-spec : {M : Type 1} → statement M
 is-skipped-spec =
     tie.close
@@ -39,5 +36,4 @@ is-skipped-spec =
     starts-requires
     returns-2
     is-attribute-requires
-    returns-3
-    returns-4)
+    returns-3)
