@@ -1,10 +1,10 @@
 #!/usr/bin/env bash
 # message.sh: how many instructions it takes to read a message, as a table: the card's reader (card_message, a static
-# library), libosip2 and Sofia-SIP where they are installed, with how often they take the card's, and two passes over
+# library), libosip2 and Sofia-SIP where they are installed, and how many times the card's instructions they take, and two passes over
 # the octets that only look for line ends. callgrind counts two runs of different length, and what one message more
 # takes is their difference. No part of the gate. Needs valgrind and a C compiler beside rt; the parsers need
 # pkg-config (apt-get install libosip2-dev libsofia-sip-ua-dev).
-set -eu
+set -euo pipefail
 root=$(cd "$(dirname "$0")/.." && pwd)
 . "$root/bench/inputs.sh"
 short=1000
@@ -41,7 +41,7 @@ for parser in OSIP:libosip2:libosip2 SOFIA:sofia-sip-ua:Sofia-SIP; do
     readers+=("$reader")
     names+=" | $name"
 done
-build OCTETS
+build OCTETS -fno-tree-vectorize
 build MEMCHR
 readers+=(OCTETS MEMCHR)
 echo "| instructions a message | $names | octet by octet | memchr |"
@@ -65,6 +65,12 @@ for m in "${messages[@]}"; do
                 exit 1
             fi
             card=$took
+            ;;
+        OCTETS | MEMCHR)
+            if [ "$answer" != "$(wc -l < "$work/$name")" ]; then
+                echo "$reader counts $answer line ends in $name" >&2
+                exit 1
+            fi
             ;;
         OSIP | SOFIA)
             took+=" ($(awk "BEGIN { printf \"%.1f\", $took / $card }"))"

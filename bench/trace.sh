@@ -3,10 +3,13 @@
 # floor.c, which reads the same lines and prints as much, with no card. callgrind counts two runs of different length,
 # and what an event more takes is their difference. Time is that of the whole run, the least of several. No part of the
 # gate. Needs valgrind and a C compiler beside rt, and Linux.
-set -eu
+set -euo pipefail
 export LC_ALL=C
 root=$(cd "$(dirname "$0")/.." && pwd)
 . "$root/bench/inputs.sh"
+# events of a round of trace.txt, and how many of them are no events
+round=100
+bad_lines=2
 # events of the runs that are counted
 short=5000
 long=10000
@@ -50,10 +53,20 @@ memory() {
     wait
 }
 bearertrace=$root/target/bin/bearertrace
-# A line for each event, after that of the names.
-printed=$("$bearertrace" < "$work/$few" | wc -l)
-if [ "$printed" != $((few + 1)) ]; then
-    echo "bearertrace prints $printed lines for $few events" >&2
+# A line for each event, after that of the names. A round has two bad lines and ends idle, so that all rounds are alike.
+"$bearertrace" < "$work/$few" > "$work/printed"
+lines=$(wc -l < "$work/printed")
+bad=$(grep -c ' bad ' "$work/printed")
+last=$(tail -n 1 "$work/printed" | cut -d ' ' -f 3)
+if [ "$lines $bad $last" != "$((few + 1)) $((few / round * bad_lines)) idle" ]; then
+    echo "bearertrace prints $lines lines for $few events, of which $bad are bad, and ends $last" >&2
+    exit 1
+fi
+# The floor prints as much, to one in a hundred.
+octets=$(wc -c < "$work/printed")
+floor=$("$work/floor" < "$work/$few" | wc -c)
+if [ $((floor * 100 / octets)) -lt 99 ] || [ $((floor * 100 / octets)) -gt 100 ]; then
+    echo "floor prints $floor octets, bearertrace $octets" >&2
     exit 1
 fi
 echo "| an event | instructions | ns, of $few | ns, of $many | KiB, of $few | KiB, of $many |"

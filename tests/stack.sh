@@ -4,7 +4,7 @@
 # and stdout), which has the longest lines and every kind of event; all traces and vectors of tests/vectors; and the
 # Recommendation's examples. The programs are those in DIRECTORY, target/bin unless given. Ends with status 1 where
 # something differs. No part of the gate; needs Linux.
-set -u
+set -uo pipefail
 cd "$(dirname "$0")/.." || exit 2
 # KiB of stack
 limit=256

@@ -1,6 +1,5 @@
 -- The laws of the definitions in `specs/`, a file for each subject.
 -- Assumes nothing.
-pub mod ParsedLaws
 pub mod KindLaws
 pub mod PartLaws
 pub mod Ipv4Laws

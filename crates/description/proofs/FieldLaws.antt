@@ -130,7 +130,7 @@ between-line a letter v h =
     (λ f. by-eq letter 116 _ (λ e. rw e)
     (λ g. rw (ne-eqb letter 118 b, ne-eqb letter 111 c, ne-eqb letter 115 d, ne-eqb letter 99 f, ne-eqb letter 116 g, ne-eqb letter 109 h) (skipped-six a letter v))))))
 
--- ---- behind the media line
+-- ---- after the media line
 -- an attribute of none of the three kinds says nothing
 attribute-none : (s : Stream) (a : List ℕ) → isAttribute a ≡ false → attributeOf s a ≡ some s
 unfolding isAttribute attributeOf

@@ -1,16 +1,16 @@
 -- Laws of the lines: what the code found of a line's tokens tells whether it is right, and what it makes of the draft.
 -- Assumes nothing.
 use Prim.Native.Nat.{ℕ, _+_, _<_, min}
-use mathlib.Core.Path.{_≡_, sym, ap, _∙_}
+use mathlib.Core.Path.{_≡_, sym, _∙_}
 use mathlib.Core.List.{List}
 use mathlib.Core.Bool.{Bool, true, false}
 use lib.ListN.{length, take, drop}
 use lib.Dec.{eqb, ltb}
 use native.Mathlib.Omega.{arith}
-use borrow.Author.Tests.{lt-ltb, le-ltb, eq-eqb, ne-eqb}
-use Rattle.octets.specs.Split.{has, before, findAt, Found}
+use borrow.Author.Tests.{eq-eqb, ne-eqb}
+use Rattle.octets.specs.Split.{has, Found}
 use Rattle.octets.proofs.CaseLaws.{by-bool}
-use Rattle.octets.proofs.SplitLaws.{has-before, has-not}
+use Rattle.octets.proofs.SplitLaws.{found-first, has-ltb}
 use Rattle.octets.specs.Words.{same, digitRun}
 use Rattle.texts.specs.Tokens.{token, tokenCount}
 use Rattle.texts.specs.declared.Two.{Two}
@@ -28,34 +28,50 @@ use Rattle.description.specs.declared.Extended.the-variants.{Go, Wrong}
 use Rattle.description.specs.Draft.{needed, reached, inWord, ip4Word, ip6Word, isOrigin, addressOf, connectionOf, withAddress, connectionLine, isTime}
 use Rattle.description.specs.Meaning.{preambleBy, extendedBy, isHost}
 
--- ---- `o=`
+-- ---- a network, a family and more: the last three tokens of `o=`, and `c=`
 module _ (v : List ℕ) (y : Three) (is : threeBy v y ≡ tokensOf 3 v) where
   pub host-few : y ≡ three.Other → false ≡ isHost v
   unfolding isHost
   host-few e = rw (three-isnt v y is e)
 
+  pub connection-few : y ≡ three.Other → Unreadable ≡ connectionOf v
+  unfolding connectionOf
+  connection-few e = rw (three-isnt v y is e)
+
   module _ (a b : ℕ) (q : y ≡ three.Lengths a b) (x : List ℕ) (first : x ≡ take a v) (t : Bool) (word : t ≡ same inWord x) where
-    in-is : (c : Bool) → t ≡ c → same inWord (token 0 v) ≡ c
-    in-is c e = rw (three-first v y is a b q, ← first) (sym word ∙ e)
+    network : (c : Bool) → t ≡ c → same inWord (token 0 v) ≡ c
+    network c e = rw (three-first v y is a b q, ← first) (sym word ∙ e)
 
     pub host-net : t ≡ false → false ≡ isHost v
     unfolding isHost
-    host-net e = rw (three-count v y is a b q, in-is false e)
+    host-net e = rw (three-count v y is a b q, network false e)
 
-    module _ (yes : t ≡ true) (r : List ℕ) (rest : r ≡ drop (a + 1) v) (f : List ℕ) (second : f ≡ take b r) (u : Bool) (four : u ≡ same ip4Word f) where
+    pub connection-net : t ≡ false → Unreadable ≡ connectionOf v
+    unfolding connectionOf
+    connection-net e = rw (three-count v y is a b q, network false e)
+
+    module _ (yes : t ≡ true) (r : List ℕ) (rest : r ≡ drop (a + 1) v) (f : List ℕ) (second : f ≡ take b r) where
       family : token 1 v ≡ f
       family = three-second v y is a b q ∙ rw (← rest, ← second)
 
-      pub host-four : u ≡ true → true ≡ isHost v
-      unfolding isHost
-      host-four e = rw (three-count v y is a b q, in-is true yes, family, ← four, e)
+      module _ (u : Bool) (four : u ≡ same ip4Word f) where
+        pub host-four : u ≡ true → true ≡ isHost v
+        unfolding isHost
+        host-four e = rw (three-count v y is a b q, network true yes, family, ← four, e)
 
-      pub host-six : u ≡ false → (w : Bool) → w ≡ same ip6Word f → w ≡ isHost v
-      unfolding isHost
-      host-six e w p = rw (three-count v y is a b q, in-is true yes, family, ← four, e) p
+        pub host-six : u ≡ false → (w : Bool) → w ≡ same ip6Word f → w ≡ isHost v
+        unfolding isHost
+        host-six e w p = rw (three-count v y is a b q, network true yes, family, ← four, e) p
+
+      pub connection-is : (g : List ℕ) → g ≡ drop (b + 1) r → (p : Parsed) → p ≡ addressOf f g → p ≡ connectionOf v
+      unfolding connectionOf
+      connection-is g o p z = rw (three-count v y is a b q, network true yes, family, three-third v y is a b q, ← rest, ← o) z
 
 pub ruleset hosts = (host-few, host-net, host-four, host-six)
 
+pub ruleset connections = (connection-few, connection-net, connection-is)
+
+-- ---- the six tokens of `o=`
 origin-host : (v : List ℕ) → isHost (behindToken (behindToken (behindToken v))) ≡ isOrigin v
 unfolding isHost isOrigin
 origin-host v =
@@ -72,27 +88,6 @@ origin-host v =
 
 pub origin-is : (v a b c : List ℕ) → a ≡ behindToken v → b ≡ behindToken a → c ≡ behindToken b → (t : Bool) → t ≡ isHost c → t ≡ isOrigin v
 origin-is v a b c p q r t e = e ∙ rw (r, q, p) (origin-host v)
-
--- ---- `c=`
-module _ (v : List ℕ) (y : Three) (is : threeBy v y ≡ tokensOf 3 v) where
-  pub connection-few : y ≡ three.Other → Unreadable ≡ connectionOf v
-  unfolding connectionOf
-  connection-few e = rw (three-isnt v y is e)
-
-  module _ (a b : ℕ) (q : y ≡ three.Lengths a b) (x : List ℕ) (first : x ≡ take a v) (t : Bool) (word : t ≡ same inWord x) where
-    net : (c : Bool) → t ≡ c → same inWord (token 0 v) ≡ c
-    net c e = rw (three-first v y is a b q, ← first) (sym word ∙ e)
-
-    pub connection-net : t ≡ false → Unreadable ≡ connectionOf v
-    unfolding connectionOf
-    connection-net e = rw (three-count v y is a b q, net false e)
-
-    pub connection-is : t ≡ true → (r f g : List ℕ) → r ≡ drop (a + 1) v → f ≡ take b r → g ≡ drop (b + 1) r → (p : Parsed) → p ≡ addressOf f g → p ≡ connectionOf v
-    unfolding connectionOf
-    connection-is e r f g k l o p z =
-        rw (three-count v y is a b q, net true e, three-second v y is a b q, three-third v y is a b q, ← k, ← l, ← o) z
-
-pub ruleset connections = (connection-few, connection-net, connection-is)
 
 -- ---- `t=`
 module _ (v : List ℕ) (y : Two) (is : twoBy v y ≡ tokensOf 2 v) where
@@ -114,7 +109,7 @@ module _ (v : List ℕ) (y : Two) (is : twoBy v y ≡ tokensOf 2 v) where
 
 pub ruleset times = (time-few, time-no, time-is)
 
--- ---- a needed line behind n others
+-- ---- a needed line after n others
 module _ (o : Preamble) (n : ℕ) (low : n < 5) (right : Bool) where
   pub needed-off : (o .had ≡ n → ⊥) → extendedBy Wrong ≡ needed n right (preambleBy o)
   unfolding extendedBy preambleBy needed
@@ -134,7 +129,7 @@ module _ (o : Preamble) (n : ℕ) (low : n < 5) (right : Bool) where
 
 pub ruleset neededs = (needed-off, needed-wrong, needed-right)
 
--- ---- `c=` behind three others
+-- ---- `c=` after three others
 module _ (o : Preamble) (v : List ℕ) where
   pub connection-off : (o .had ≡ 3 → ⊥) → extendedBy Wrong ≡ connectionLine (preambleBy o) v
   unfolding extendedBy preambleBy connectionLine
@@ -156,10 +151,4 @@ pub ruleset connectionLines = (connection-off, connection-unread, connection-rea
 
 -- ---- letters that are skipped
 pub found-has : (s : List ℕ) (c e : ℕ) → Found s c 0 e → (t : Bool) → t ≡ ltb e (length s) → t ≡ has c s
-unfolding findAt
-found-has s c e f t p =
-    let z : e ≡ 0 + length (before c (drop 0 s)) = f .is in
-    let q : e ≡ length (before c s) = omega arith in
-    p ∙ by-bool (has c s) _
-    (λ h. lt-ltb e (length s) (omega (arith, has-before c s h)) ∙ sym h)
-    (λ h. le-ltb e (length s) (omega (arith, ap (λ (x : List ℕ). length x) (has-not c s h))) ∙ sym h)
+found-has s c e f t p = p ∙ rw (found-first s c e f) (sym (has-ltb c s))

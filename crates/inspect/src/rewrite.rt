@@ -10,9 +10,9 @@ use bat::Framed;
 use bat::Reading;
 use bat::Value;
 use bat::framing;
-use notation::fitting;
 use notation::push_octets;
 use notation::push_refused;
+use notation::smaller;
 use octets::Number;
 use octets::Put;
 use octets::append;
@@ -77,7 +77,7 @@ fn push_lent(
     out: &mut [u8],
     at: usize,
 ) -> usize {
-    let n = fitting(buffer as usize, room.len());
+    let n = smaller(buffer as usize, room.len());
     push_data(data, compatibility, &mut room[0..n], out, at)
 }
 

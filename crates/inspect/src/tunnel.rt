@@ -3,8 +3,8 @@ use crate::input;
 use crate::input::Unpacked;
 use crate::print;
 use bctp::Packet;
-use notation::fitting;
 use notation::push_refused;
+use notation::smaller;
 use octets::Number;
 use octets::append;
 use octets::parts;
@@ -23,7 +23,7 @@ fn push_packet(packet: &[u8], room: &mut [u8], out: &mut [u8], at: usize) -> usi
 
 // Appends the answer to a packet, with a buffer of so many octets.
 fn push_lent(packet: &[u8], buffer: u16, room: &mut [u8], out: &mut [u8], at: usize) -> usize {
-    let n = fitting(buffer as usize, room.len());
+    let n = smaller(buffer as usize, room.len());
     push_packet(packet, &mut room[0..n], out, at)
 }
 

@@ -83,7 +83,7 @@ module _ (m : List ℕ) (y : Head) (is : y ≡ headIn m) where
       unfolding readingIn finish
       by-wrong f q = by-lines f none q (answer.Refused 10) refl
 
-      pub by-stream : t ≡ true → (a : Address) (s : Places) → ended (wholeOf start m) ≡ some (later a (streamBy m s)) → (r : Places) → KeptInside m s r
+      by-stream : t ≡ true → (a : Address) (s : Places) → ended (wholeOf start m) ≡ some (later a (streamBy m s)) → (r : Places) → KeptInside m s r
           → readingIn m (answer.Described kind a r) ≡ some (byHead m (headIn m))
       unfolding readingIn finish later streamIn
       by-stream f a s q r p =
@@ -91,7 +91,7 @@ module _ (m : List ℕ) (y : Head) (is : y ≡ headIn m) where
 
 pub ruleset byTypes = (by-untyped, by-version, by-type, by-wrong)
 
--- ---- behind the ipbcp line, which says h: u says whether what stands there is made of lines
+-- ---- after the ipbcp line, which says h: u says whether what stands there is made of lines
 module _ (m : List ℕ) (h : Head) (from : ℕ) (told : cond (inLines (drop from m)) h Untyped ≡ headIn m) (r : List ℕ) (at : r ≡ drop from m) (u : Bool) (is : u ≡ inLines r) where
   told-yes : u ≡ true → h ≡ headIn m
   told-yes e = let k : inLines (drop from m) ≡ true = rw (← at) (sym is ∙ e) in rw k at told

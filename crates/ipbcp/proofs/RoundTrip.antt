@@ -50,14 +50,14 @@ head-text Accepted = refl
 head-text Confused = refl
 head-text Rejected = refl
 
-preamble-head : (own : Address) (k : Kind) (ts : List (List ℕ))
+opening-head : (own : Address) (k : Kind) (ts : List (List ℕ))
     → firstHead (versionText ∷ originText own ∷ sessionText ∷ connectionText own ∷ timeText ∷ ipbcpText k ∷ ts) ≡ headOf (withoutBlank (drop (length ipbcpStart) (ipbcpText k)))
 unfolding firstHead begins originText connectionText ipbcpText
-preamble-head own k ts = refl
+opening-head own k ts = refl
 
 message-head : (own : Address) (c : Content) → firstHead (messageLines own c) ≡ Typed 1 (kindIn c)
 unfolding messageLines
-message-head own c = preamble-head own (kindIn c) (mediaLines c) ∙ head-text (kindIn c)
+message-head own c = opening-head own (kindIn c) (mediaLines c) ∙ head-text (kindIn c)
 
 -- ---- the lines of every message
 address-split : (a : Address) → splitOn 32 (addressText a) ≡ addressText a ∷ []
@@ -90,10 +90,10 @@ connection-is (V6 h l) f u =
 unfoldable sixLines : Address → Draft
 sixLines own = record { had = 6; address = own; stream = start .stream }
 
-preamble-read : (own : Address) → fits own → isUnicast own ≡ true → (k : Kind) (ts : List (List ℕ))
+opening-read : (own : Address) → fits own → isUnicast own ≡ true → (k : Kind) (ts : List (List ℕ))
     → linesOf start (versionText ∷ originText own ∷ sessionText ∷ connectionText own ∷ timeText ∷ ipbcpText k ∷ ts) ≡ linesOf (sixLines own) ts
 unfolding linesOf lineOf fieldOf start versionLine needed reached same begins originText originLine sessionLine connectionText connectionLine onParsed withAddress timeLine isTime tokenCount noneEmpty splitOn onFirst partOf digitRun allDigits isDigit ipbcpText attributeLine ipbcpLine sixLines Option·elim
-preamble-read own f u k ts = rw (origin-is own, connection-is own f u)
+opening-read own f u k ts = rw (origin-is own, connection-is own f u)
 
 -- ---- the media line and its attributes
 lines-append : (d : Draft) (ts us : List (List ℕ)) (e : Draft) → linesOf d ts ≡ some e → linesOf d (ts ++ us) ≡ linesOf e us
@@ -220,7 +220,7 @@ module _ (own : Address) (f : fits own) (u : isUnicast own ≡ true) where
   described-read : (k : Kind) (s : Stream) → rightMedia s ≡ true → rightAttributes s ≡ true
       → finish k (linesOf start (versionText ∷ originText own ∷ sessionText ∷ connectionText own ∷ timeText ∷ ipbcpText k ∷ streamLines s)) ≡ described k own s
   unfolding finish sevenLines
-  described-read k s h j = rw (preamble-read own f u k (streamLines s), stream-read own s h j)
+  described-read k s h j = rw (opening-read own f u k (streamLines s), stream-read own s h j)
 
   by-kind : (c : Content) → rightContent c ≡ true → (m : List ℕ) → lines m ≡ messageLines own c → byHead m (Typed 1 (kindIn c)) ≡ readingOf own c
   unfolding byHead isDescribed kindIn rightContent readingOf messageLines mediaLines

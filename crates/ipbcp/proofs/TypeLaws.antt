@@ -1,4 +1,4 @@
--- Laws of the version and the type: each line that is no ipbcp line leaves the first one to the lines behind it.
+-- Laws of the version and the type: each line that is no ipbcp line leaves the first one to the lines after it.
 -- Assumes nothing.
 use Prim.Native.Nat.{ℕ, _+_, _-_, _≤_, _<_}
 use mathlib.Core.Path.{_≡_, refl, sym, ap, _∙_}

@@ -1,5 +1,5 @@
 -- Laws of the lines of a message, one after another: each moves the draft, before the ipbcp line, between it and the media
--- line, and behind that.
+-- line, and after that.
 -- Assumes nothing.
 use Prim.Native.Nat.{ℕ, _-_, _≤_, _<_, min}
 use mathlib.Core.Path.{_≡_, refl, sym, ap, _∙_}
@@ -51,7 +51,7 @@ module _ (m : List ℕ) (i : ℕ) (y : Line) (w : lineIn m y ≡ some (firstLine
       rw (loop-inLines m i y w letter value n q, loop-lines m i y w letter value n q)
       (after-line (inLines (drop n m)) (fieldOf d letter (textOf m value)))
 
--- an ipbcp line has its place behind five others
+-- an ipbcp line has its place after five others
 ipbcp-line : (d : Draft) (letter : ℕ) (v : List ℕ) → isIpbcp letter v ≡ true → fieldOf d letter v ≡ needed 5 true d
 unfolding isIpbcp fieldOf attributeLine ipbcpLine
 ipbcp-line d letter v h =
@@ -68,7 +68,7 @@ all-there : (m : List ℕ) (i : ℕ) → length m ≤ i → (d : Draft) → whol
 unfolding wholeOf linesOf
 all-there m i h d = rw (loop-ended m i h, loop-end m i h)
 
--- ---- behind the media line
+-- ---- after the media line
 -- s with the lines from i on is s₀ with those from `from` on
 pub record Leads (m : List ℕ) (s : Places) (i : ℕ) (s₀ : Places) (from : ℕ) : Type 0 where
   pub same : (a : Address) → wholeOf (later a (streamBy m s)) (drop i m) ≡ wholeOf (later a (streamBy m s₀)) (drop from m)
@@ -100,7 +100,7 @@ module _ (m : List ℕ) (s s₀ : Places) (i from : ℕ) (inv : Leads m s i s₀
 
 pub ruleset laters = (leads-start, later-end, later-none, later-wrong, later-more)
 
--- ---- the media line: x is what it was read as, and z what the lines behind it make of that
+-- ---- the media line: x is what it was read as, and z what the lines after it make of that
 module _ (m : List ℕ) (v : Span) (from : ℕ) (x : Taken) (p : takenBy m x ≡ mediaOf (textOf m v)) where
   media-is : (t : Taken) → x ≡ t → (a : Address) → mediaLine (between a) (textOf m v) ≡ laterBy a m t
   unfolding mediaLine between laterBy later withStream
@@ -189,7 +189,7 @@ module _ (m : List ℕ) (o : Preamble) (i : ℕ) (x : Option Draft) (inv : whole
         ipbcp : (c : Bool) → b ≡ c → isIpbcp letter (textOf m value) ≡ c
         ipbcp c e = rw (← at) (sym is ∙ e)
 
-        -- the ipbcp line is in its place behind five, or not
+        -- the ipbcp line is in its place after five, or not
         module _ (yes : b ≡ true) where
           placed : fieldOf (preambleBy o) letter (textOf m value) ≡ needed 5 true (preambleBy o)
           placed = ipbcp-line (preambleBy o) letter (textOf m value) (ipbcp true yes)

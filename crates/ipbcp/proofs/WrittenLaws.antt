@@ -194,11 +194,11 @@ content-lines (accepted s) h = let a = and-eq-true-iff (rightMedia s) (rightAttr
 content-lines confused h = no-lines
 content-lines rejected h = no-lines
 
-preamble-lines : (own : Address) (k : Kind) (ts : List (List ℕ)) → allLines ts ≡ true
+opening-lines : (own : Address) (k : Kind) (ts : List (List ℕ)) → allLines ts ≡ true
     → allLines (versionText ∷ originText own ∷ sessionText ∷ connectionText own ∷ timeText ∷ ipbcpText k ∷ ts) ≡ true
 unfolding allLines isLine allPlain isPlain
-preamble-lines own k ts h = rw (origin-line own, connection-line own, ipbcp-line k, h)
+opening-lines own k ts h = rw (origin-line own, connection-line own, ipbcp-line k, h)
 
 pub message-lines : (own : Address) (c : Content) → rightContent c ≡ true → allLines (messageLines own c) ≡ true
 unfolding messageLines
-message-lines own c h = preamble-lines own (kindIn c) (mediaLines c) (content-lines c h)
+message-lines own c h = opening-lines own (kindIn c) (mediaLines c) (content-lines c h)

@@ -25,7 +25,7 @@ use Rattle.ipbcp.specs.Reading.{typed, linesOf, isDescribed, byHead}
 unfoldable pub wholeOf : Draft → List ℕ → Option Draft
 wholeOf d m = cond (inLines m) (linesOf d (lines m)) none
 
--- the same behind a line that may be wrong
+-- the same after a line that may be wrong
 unfoldable pub withLines : Option Draft → List ℕ → Option Draft
 withLines o m = Option·elim o none (λ d. wholeOf d m)
 
@@ -34,15 +34,15 @@ unfoldable pub ended : Option Draft → Option Draft
 ended none = none
 ended (some d) = cond (eqb (d .had) 7) (some d) none
 
--- r is the stream s with the lines of m from `from` on behind its media line, whatever the address is
+-- r is the stream s with the lines of m from `from` on after its media line, whatever the address is
 pub record LaterLines (m : List ℕ) (s : Places) (from : ℕ) (r : Taken) : Type 0 where
   pub is : (a : Address) → laterBy a m r ≡ wholeOf (later a (streamBy m s)) (drop from m)
 
--- r is the stream of the media line with the value of v, and of the lines of m from `from` on behind it
+-- r is the stream of the media line with the value of v, and of the lines of m from `from` on after it
 pub record MediaLines (m : List ℕ) (v : Span) (from : ℕ) (r : Taken) : Type 0 where
   pub is : (a : Address) → laterBy a m r ≡ withLines (mediaLine (between a) (textOf m v)) (drop from m)
 
--- r is the stream of the lines of m from `from` on, behind an ipbcp line
+-- r is the stream of the lines of m from `from` on, after an ipbcp line
 pub record StreamLines (m : List ℕ) (from : ℕ) (r : Taken) : Type 0 where
   pub is : (a : Address) → laterBy a m r ≡ ended (wholeOf (between a) (drop from m))
 

@@ -137,8 +137,8 @@ fn is_described(kind: Kind) -> bool
     }
 }
 
-// The answer to m, of whose lines one is wrong or missing: version and type say which number refuses it.
-fn refuse(m: &[u8]) -> Message
+// The answer to m, of whose lines one is wrong or missing: its version and type alone, or number 9 or 10.
+fn by_type(m: &[u8]) -> Message
     requires { ⌜ ended (wholeOf start (now m)) ≡ none ⌝ }
     ensures { λ r. ⌜ readingIn (now (m .entry)) r ≡ some (byHead (now (m .entry)) (headIn (now (m .entry)))) ⌝ }
 {
@@ -214,24 +214,24 @@ fn read_short(m: &[u8]) -> Message
             next,
         } = sdp::next_line(m, i)
         else {
-            return refuse(m);
+            return by_type(m);
         };
         let t = text(m, value);
         if description::is_ipbcp(letter, t) {
             let had = p.had;
             if had < 5 {
-                return refuse(m);
+                return by_type(m);
             }
             let address = p.address;
             return read_typed(types::read_value(t), address, m, next);
         }
         let Extended::Go(more) = description::preamble_line(p, letter, t) else {
-            return refuse(m);
+            return by_type(m);
         };
         p = more;
         i = next;
     }
-    refuse(m)
+    by_type(m)
 }
 
 // What m says.

@@ -1,4 +1,4 @@
--- Laws of `gathered` and of the buffer, one for each way that the loop of `gather` can go: each follows from what the next octet does to `before` and to `has`.
+-- Laws of `gathered`: where the first LF is, and how many octets were appended, say what is answered.
 -- Assumes nothing.
 use Prim.Native.Nat.{ℕ, _+_, _-_, _≤_, _<_, min}
 use mathlib.Core.Path.{_≡_, refl, sym, ap, _∙_}
@@ -7,11 +7,11 @@ use mathlib.Core.Bool.{Bool, true, false, _||_}
 use lib.ListN.{length, take, drop, length-drop}
 use lib.Dec.{ltb}
 use native.Mathlib.Omega.{arith}
-use borrow.Author.Tests.{lt-ltb, le-ltb, ltb-true, ltb-false}
+use borrow.Author.Tests.{lt-ltb, le-ltb}
 use Rattle.octets.specs.Split.{has, before, findAt, Found}
 use Rattle.octets.specs.Append.{appended, nextOf, Appends}
-use Rattle.octets.proofs.CaseLaws.{by-bool}
-use Rattle.octets.proofs.SplitLaws.{take-before, has-before, has-not}
+use Rattle.octets.proofs.CaseLaws.{by-lt}
+use Rattle.octets.proofs.SplitLaws.{take-before, has-ltb}
 use Rattle.line_input.specs.declared.Gathered.{Gathered}
 use Rattle.line_input.specs.Gather.{gathered, Gathers}
 
@@ -21,16 +21,6 @@ told n over i ended = record { len = n; over = over; next = i; ended = ended }
 
 same : (n n′ : ℕ) (o o′ : Bool) (i i′ : ℕ) (e e′ : Bool) → n ≡ n′ → o ≡ o′ → i ≡ i′ → e ≡ e′ → told n o i e ≡ told n′ o′ i′ e′
 same n n′ o o′ i i′ e e′ p q r s = rw (p, q, r, s)
-
--- c is among s exactly where the part before it is shorter
-has-more : (c : ℕ) (s : List ℕ) → length (before c s) < length s → has c s ≡ true
-has-more c s h = by-bool (has c s) _ (λ e. e) (λ e. absurd (omega (arith, ap length (has-not c s e))))
-
-has-none : (c : ℕ) (s : List ℕ) → length s ≤ length (before c s) → has c s ≡ false
-has-none c s h = by-bool (has c s) _ (λ e. absurd (omega (arith, has-before c s e))) (λ e. e)
-
-by-lt : (a b : ℕ) (X : Type 0) → (a < b → X) → (b ≤ a → X) → X
-by-lt a b X f g = by-bool (ltb a b) X (λ e. f (ltb-true a b e)) (λ e. g (ltb-false a b e))
 
 -- ---- the call: e is where the first LF is, and the octets before it were appended
 module _ (s l f d v : List ℕ) (from n e r : ℕ) (at : Found s 10 from e) (rest : d ≡ drop from s) (cuts : v ≡ take (e - from) d) (adds : Appends l n v r f) where
@@ -63,7 +53,7 @@ module _ (s l f d v : List ℕ) (from n e r : ℕ) (at : Found s 10 from e) (res
     pub with-lf : e < length s → Gathers s from l n over (told r o (e + 1) true) f
     unfolding gathered
     with-lf h =
-        let k : has 10 (drop from s) ≡ true = has-more 10 (drop from s) (omega (arith, long, at .low, length-drop from s)) in
+        let k : has 10 (drop from s) ≡ true = has-ltb 10 (drop from s) ∙ lt-ltb (length p) (length (drop from s)) (omega (arith, long, at .low, length-drop from s)) in
         record {
           answers = rw k (same _ _ _ _ _ _ _ _ stored (is ∙ ap (λ (z : Bool). over || z) same-test) (omega (arith, long, at .low)) refl);
           leaves = left;
@@ -72,7 +62,7 @@ module _ (s l f d v : List ℕ) (from n e r : ℕ) (at : Found s 10 from e) (res
     pub without-lf : length s ≤ e → Gathers s from l n over (told r o e false) f
     unfolding gathered
     without-lf h =
-        let k : has 10 (drop from s) ≡ false = has-none 10 (drop from s) (omega (arith, long, at .low, length-drop from s)) in
+        let k : has 10 (drop from s) ≡ false = has-ltb 10 (drop from s) ∙ le-ltb (length p) (length (drop from s)) (omega (arith, long, at .low, length-drop from s)) in
         record {
           answers = rw k (same _ _ _ _ _ _ _ _ stored (is ∙ ap (λ (z : Bool). over || z) same-test) (omega (arith, long, at .low)) refl);
           leaves = left;

@@ -33,7 +33,7 @@ use Rattle.media.proofs.TextsLaws.{map-snoc}
 
 -- ---- the media line
 -- what a stream without attributes says
-pub bare-says : (m : List ℕ) (sp r : Span) (port payload : ℕ) → streamBy m (barePlaces sp port r payload) ≡ bareStream (textOf m sp) port (textOf m r) payload
+bare-says : (m : List ℕ) (sp r : Span) (port payload : ℕ) → streamBy m (barePlaces sp port r payload) ≡ bareStream (textOf m sp) port (textOf m r) payload
 unfolding streamBy textsBy spansOf textOf
 bare-says m sp r port payload = refl
 

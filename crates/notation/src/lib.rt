@@ -90,14 +90,14 @@ pub fn push_refused(n: u8, out: &mut [u8], at: usize) -> usize
     push_number(n as u64, out, k)
 }
 
-// How many of n octets find room in a buffer of `room`.
-pub fn fitting(n: usize, room: usize) -> usize
-    ensures { λ r. ⌜ r ≡ min n room ⌝ }
+// The smaller of two numbers.
+pub fn smaller(a: usize, b: usize) -> usize
+    ensures { λ r. ⌜ r ≡ min a b ⌝ }
 {
-    if room < n {
-        return room;
+    if b < a {
+        return b;
     }
-    n
+    a
 }
 
 // Puts the octets that the pairs of digits in t stand for at the front of dst, up to the first pair that is none or finds no
@@ -106,7 +106,7 @@ pub fn read_octets(t: &[u8], dst: &mut [u8]) -> bool
     ensures { λ r. ⌜ ReadsOctets (now (t .entry)) (now (dst .entry)) r (now (dst .exit)) ⌝ }
 {
     let n = t.len() / 2;
-    let most = fitting(n, dst.len());
+    let most = smaller(n, dst.len());
     let mut j = 0;
     while j < most {
         let a = digit(t[j + j]);

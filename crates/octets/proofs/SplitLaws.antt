@@ -1,7 +1,7 @@
 -- Laws of `has`, `before`, `findAt` and `splitOn`: by induction on the list, each step by whether its first octet is the separator.
 -- Assumes nothing.
 use Prim.Native.Nat.{ℕ, suc, _+_, _-_, _≤_, _<_}
-use mathlib.Core.Path.{_≡_, refl, ap, _∙_}
+use mathlib.Core.Path.{_≡_, refl, sym, ap, _∙_}
 use mathlib.Core.List.{List, [], _∷_, _++_}
 use mathlib.Core.Bool.{true, false, true≢false}
 use lib.ListN.{length, getD, take, drop, length-drop, drop-of-length-le}
@@ -9,9 +9,10 @@ use lib.Seq.{drop-drop}
 use native.Mathlib.Nat.{add-zero}
 use native.Mathlib.Numerals.{add-one}
 use native.Mathlib.Omega.{arith}
-use borrow.Author.Tests.{eq-eqb, ne-eqb}
+use lib.Dec.{ltb}
+use borrow.Author.Tests.{eq-eqb, ne-eqb, lt-ltb, le-ltb}
 use Rattle.octets.specs.Split.{has, before, onFirst, splitOn, findAt, Found}
-use Rattle.octets.proofs.CaseLaws.{by-eq}
+use Rattle.octets.proofs.CaseLaws.{by-eq, by-bool}
 use Rattle.octets.proofs.Laws.{next}
 
 pub before-here : (c b : ℕ) (bs : List ℕ) → b ≡ c → before c (b ∷ bs) ≡ []
@@ -71,6 +72,11 @@ found s c from r e =
     record { is = e; low = omega arith; high = omega arith }
 
 pub ruleset finding = (found, find-found, find-more, find-past)
+
+-- the first c of all
+pub found-first : (s : List ℕ) (c e : ℕ) → Found s c 0 e → e ≡ length (before c s)
+unfolding findAt
+found-first s c e f = let z : e ≡ 0 + length (before c (drop 0 s)) = f .is in omega arith
 
 pub take-before : (c : ℕ) (s : List ℕ) → take (length (before c s)) s ≡ before c s
 unfolding before
@@ -151,6 +157,13 @@ has-not c (b ∷ bs) h =
     by-eq b c _
     (λ e. let k : true ≡ false = rw (eq-eqb b c e) at h in let z : _≡_ {A = ℕ} 0 1 = cc in absurd (omega arith))
     (λ e. rw (before-more c b bs e) (ap (λ (l : List ℕ). b ∷ l) (has-not c bs (rw (ne-eqb b c e) at h))))
+
+-- c is among s exactly where the part before it is shorter
+pub has-ltb : (c : ℕ) (s : List ℕ) → has c s ≡ ltb (length (before c s)) (length s)
+has-ltb c s =
+    by-bool (has c s) _
+    (λ h. h ∙ sym (lt-ltb (length (before c s)) (length s) (has-before c s h)))
+    (λ h. h ∙ sym (le-ltb (length (before c s)) (length s) (omega (arith, ap length (has-not c s h)))))
 
 -- c is neither the first octet nor among the others
 pub has-cons : (c b : ℕ) (bs : List ℕ) (X : Type 0) → has c (b ∷ bs) ≡ false → ((b ≡ c → ⊥) → has c bs ≡ false → X) → X

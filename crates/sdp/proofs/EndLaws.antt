@@ -1,5 +1,5 @@
 -- Laws of `pass_fours`, `find_end` and `next_line`: what stands there up to the first octet that is not plain is `plainPart`,
--- and the octets behind it say whether a line ends there.
+-- and the octets after it say whether a line ends there.
 -- Assumes nothing.
 use Prim.Native.Nat.{ℕ, suc, _+_, _-_, _≤_, _<_}
 use mathlib.Core.Path.{_≡_, refl, sym, ap, _∙_}
@@ -73,13 +73,13 @@ plain-all s n f t p =
 -- ---- plain octets are passed, from i on
 module _ (m : List ℕ) (i : ℕ) where
   pub to-start : PlainTo m i i
-  to-start = record { count = refl; low = omega arith; high = omega arith }
+  to-start = record { count = refl; low = omega arith }
 
   to-next : (n : ℕ) → PlainTo m i n → n < length m → isPlain (getD m n 0) ≡ true → PlainTo m i (n + 1)
   to-next n f h e =
       let k : n + suc (length (plainPart (drop (n + 1) m))) ≡ i + length (plainPart (drop i m)) =
       rw (next m n h, part-more (getD m n 0) (drop (n + 1) m) e) at (f .count) in
-      record { count = omega arith; low = omega (arith, f .low); high = omega (arith, f .high) }
+      record { count = omega arith; low = omega (arith, f .low) }
 
   -- `find_end`, at n
   module _ (n : ℕ) (f : PlainTo m i n) where

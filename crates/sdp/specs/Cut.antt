@@ -1,6 +1,6 @@
 -- One line after another: the line at the front of a text, and what `Line` stands for. `lines` and `inLines` follow from it
 -- (`CutLaws`).
-use Prim.Native.Nat.{ℕ, _+_, _≤_, max}
+use Prim.Native.Nat.{ℕ, _+_, _≤_}
 use mathlib.Core.Path.{_≡_}
 use mathlib.Core.List.{List, [], _∷_}
 use mathlib.Core.Bool.{_&&_, cond}
@@ -14,7 +14,7 @@ use Rattle.sdp.specs.declared.Line.{Line}
 use Rattle.sdp.specs.declared.Line.the-variants.{Text, NoLine}
 
 pub data Front : Type 0 where
-  -- a line, and all that stands behind its end
+  -- a line, and all that stands after its end
   line : List ℕ → List ℕ → Front
   -- what is no line, or has no end, or nothing at all
   noLine : Front
@@ -38,13 +38,12 @@ unfoldable pub plainPart : List ℕ → List ℕ
 plainPart [] = []
 plainPart (b ∷ bs) = cond (isPlain b) (b ∷ plainPart bs) []
 
--- n stands at i or behind it, and the octets between are plain
+-- n stands at i or after it, and the octets between are plain
 pub record PlainTo (m : List ℕ) (i n : ℕ) : Type 0 where
   pub count : n + length (plainPart (drop n m)) ≡ i + length (plainPart (drop i m))
   pub low : i ≤ n
-  pub high : n ≤ max i (length m)
 
--- r is the place behind that part of what stands at i; the bound follows, and is here for callers
+-- r is the place after that part of what stands at i; the bound follows, and is here for callers
 pub record Ends (m : List ℕ) (i r : ℕ) : Type 0 where
   pub is : r ≡ i + length (plainPart (drop i m))
   pub low : i ≤ r

@@ -14,7 +14,7 @@ use native.Mathlib.Omega.{arith}
 use borrow.Author.Tests.{ltb-true, eqb-true, lt-ltb, le-ltb, le-leb, lt-leb, eq-eqb, ne-eqb}
 use Rattle.octets.specs.Split.{before, splitOn, findAt, Found, partOf}
 use Rattle.octets.proofs.CaseLaws.{by-eq, by-le, by-lt, by-bool}
-use Rattle.octets.proofs.SplitLaws.{found, split-some, part-is, part-dot, part-last}
+use Rattle.octets.proofs.SplitLaws.{found-first, found, split-some, part-is, part-dot, part-last}
 use Rattle.texts.specs.Tokens.{token, noneEmpty, tokenCount, behindBlank}
 use Rattle.texts.specs.declared.Two.{Two}
 use Rattle.texts.specs.declared.Two.the-variants as two
@@ -53,7 +53,7 @@ module _ (s : List ℕ) (e : ℕ) (f : Found s 32 0 e) where
       (λ b. rw (cut-last h, b, ne-eqb 0 (suc (suc n)) (λ k. omega arith)))
 
   module _ (l : e < length s) where
-    -- others stand behind it
+    -- others stand after it
     tokens-more : 1 ≤ e → (n : ℕ) → tokensOf (suc (suc n)) s ≡ Option·map (λ (qs : List (List ℕ)). take e s ∷ qs) (tokensOf (suc n) (drop (e + 1) s))
     unfolding tokensOf tokenCount noneEmpty
     tokens-more h n =
@@ -92,7 +92,7 @@ one-is s h e f t p =
 
 pub ruleset ones = (one-none, one-is)
 
--- ---- `cut_two`, `cut_three` and `cut_four`: r is what stands behind the first token, and y what it was read as
+-- ---- `cut_two`, `cut_three` and `cut_four`: r is what stands after the first token, and y what it was read as
 module _ (s : List ℕ) (e : ℕ) (f : Found s 32 0 e) where
   pub two-empty : e < 1 → twoBy s two.Other ≡ tokensOf 2 s
   unfolding twoBy
@@ -307,28 +307,24 @@ pub ruleset lengths = (two-fits, three-fits, three-fits-2, four-fits, four-fits-
 
 -- ---- `behind_token`
 module _ (s : List ℕ) (e : ℕ) (f : Found s 32 0 e) where
-  before-is : e ≡ length (before 32 s)
-  unfolding findAt
-  before-is = let z : e ≡ 0 + length (before 32 (drop 0 s)) = f .is in omega arith
-
   pub behind-empty : e < 1 → take 0 (drop 0 s) ≡ behindToken s
   unfolding behindToken
-  behind-empty h = rw (le-ltb 0 (length (before 32 s)) (omega (arith, before-is)))
+  behind-empty h = rw (le-ltb 0 (length (before 32 s)) (omega (arith, found-first s 32 e f)))
 
   behind-is : 1 ≤ e → behindToken s ≡ drop (e + 1) s
   unfolding behindToken behindBlank
-  behind-is h = rw (lt-ltb 0 (length (before 32 s)) (omega (arith, before-is)), ← before-is)
+  behind-is h = rw (lt-ltb 0 (length (before 32 s)) (omega (arith, found-first s 32 e f)), ← found-first s 32 e f)
 
   pub behind-there : 1 ≤ e → (r : List ℕ) → r ≡ drop (e + 1) s → r ≡ behindToken s
   behind-there h r p = p ∙ sym (behind-is h)
 
-pub ruleset behinds = (behind-empty, behind-there)
+pub ruleset behindTokens = (behind-empty, behind-there)
 
 none-left : (n : ℕ) → tokensOf (suc n) [] ≡ none
 unfolding tokensOf tokenCount noneEmpty splitOn
 none-left n = rw (ne-eqb 0 (suc n) (λ k. omega arith))
 
--- the tokens of s are its first and those behind it
+-- the tokens of s are its first and those after it
 behind-tokens : (s : List ℕ) (n : ℕ)
     → tokensOf (suc (suc n)) s ≡ Option·map (λ (qs : List (List ℕ)). take (findAt s 32 0) s ∷ qs) (tokensOf (suc n) (behindToken s))
 behind-tokens s n =

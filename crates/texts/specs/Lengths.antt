@@ -15,7 +15,7 @@ use Rattle.texts.specs.declared.Three.the-variants as three
 use Rattle.texts.specs.declared.Four.{Four}
 use Rattle.texts.specs.declared.Four.the-variants as four
 
--- what stands behind the first token of s and its blank; nothing where that token is empty or
+-- what stands after the first token of s and its blank; nothing where that token is empty or
 -- the last
 unfoldable pub behindToken : List ℕ → List ℕ
 behindToken s = cond (ltb 0 (length (before 32 s))) (behindBlank s) []

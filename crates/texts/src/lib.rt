@@ -1,4 +1,4 @@
-// Tokens of a text and what stands behind its first blank, and parts of parts of a text as spans.
+// Tokens of a text and what stands after its first blank, and parts of parts of a text as spans.
 ghost use mathlib.Core.Path.{_≡_};
 ghost use lib.ListN.{drop};
 ghost use Rattle.octets.specs.Spans.{textOf};
@@ -8,7 +8,7 @@ use octets::Span;
 use octets::parts::find_from;
 use octets::spans::after;
 
-// A text of two tokens: how long the first is. The second is what stands behind it and its blank.
+// A text of two tokens: how long the first is. The second is what stands after it and its blank.
 pub enum Two {
     Lengths(usize),
     Other,
@@ -60,7 +60,7 @@ pub fn skip(m: &[u8], sp: Span, n: usize) -> Span
     inner(m, sp, Span { at: n, len: len })
 }
 
-// The span of what stands behind the first blank of s.
+// The span of what stands after the first blank of s.
 pub fn behind_blank(s: &[u8]) -> Span
     ensures { λ r. ⌜ textOf (now (s .entry)) r ≡ behindBlank (now (s .entry)) ⌝ }
 {
@@ -74,7 +74,7 @@ pub fn behind_blank(s: &[u8]) -> Span
     }
 }
 
-// What stands behind the first token of s and its blank: nothing where that token is empty or the last.
+// What stands after the first token of s and its blank: nothing where that token is empty or the last.
 pub fn behind_token(s: &[u8]) -> &[u8]
     ensures { λ r. ⌜ now r ≡ behindToken (now (s .entry)) ⌝ }
 {

@@ -40,6 +40,7 @@ use Rattle.notation.proofs.OctetsLaws.{read-back, read-wrong}
 use Rattle.trace_read.specs.declared.Asked.{Asked}
 use Rattle.trace_read.specs.declared.Asked.the-variants as reading
 use Rattle.trace_read.specs.declared.Lent as places
+use Rattle.trace_read.specs.Words.{mostLine}
 use Rattle.trace_read.specs.Events.{messageBy}
 use Rattle.trace_read.specs.Lending.{Lent, lentIn}
 use Rattle.trace_read.specs.Meaning.{askedBy, Asks, lentBy}
@@ -135,12 +136,12 @@ module _ (self : Endpoint) (call : Call) (m room room′ out out′ : List ℕ) 
         inside = λ b. rw (g .config) b;
       }
 
-  -- as many octets are lent as are asked for and there
-  pub handled-is : (asked : ℕ) → DidFront self (eventOf call m) w room room′ r → w ≡ min asked (length room)
+  -- as many octets are lent as are wanted, or all
+  pub handled-is : (wanted : ℕ) → DidFront self (eventOf call m) w room room′ r → w ≡ min wanted (length room)
       → Appends out at (lineText d n (some (eventOf call [])) (self .state) (r .reply) (take (writtenBy (r .reply)) room′) (forceBy (r .endpoint))) k out′
-      → Does (configInside (self .config)) (handled d (configurationBy (self .config)) (bookOf self) n (some (eventOf call m)) room (min asked (length room))) room′ out out′ at
+      → Does (configInside (self .config)) (handled d (configurationBy (self .config)) (bookOf self) n (some (eventOf call m)) room (min wanted (length room))) room′ out out′ at
       (record { session = record { phase = Running; number = n; endpoint = r .endpoint }; at = k })
-  handled-is asked h l a = rw (← l) (given h (omega arith) a)
+  handled-is wanted h l a = rw (← l) (given h (omega arith) a)
 
 -- ---- a line that is no event
 pub passed-is : (self : Endpoint) (out g out′ : List ℕ) (n at k k₂ : ℕ) (d : Bool)
@@ -191,7 +192,7 @@ module _ (s f : List ℕ) (whole : Bool) where
     line-nothing q = rw (asks reading.Nothing q)
 
     -- its digits are few
-    pub line-fits : y ≡ reading.Digits → (t : List ℕ) → t ≡ drop 2 s → (n : ℕ) → 600 ≤ n → length t / 2 ≤ n
+    pub line-fits : y ≡ reading.Digits → (t : List ℕ) → t ≡ drop 2 s → (n : ℕ) → mostLine / 2 ≤ n → length t / 2 ≤ n
     line-fits q t o n l =
         let k = e .short q in
         let z : length t ≡ length s - 2 = rw o (length-drop 2 s) in

@@ -11,6 +11,7 @@ ghost use Rattle.configuration.specs.Meaning.{configurationBy, configInside};
 ghost use Rattle.bearer.specs.Meaning.{bearerBy, heldIf};
 ghost use Rattle.endpoint.specs.Call.{eventOf};
 ghost use Rattle.endpoint.specs.Step.{bookOf};
+ghost use Rattle.trace_read.specs.Words.{mostLine};
 ghost use Rattle.trace_read.specs.Events.{messageBy};
 ghost use Rattle.trace_write.specs.Detail.{detailText};
 ghost use Rattle.trace.specs.Trace.{lineText, handled, askedIn, following, ran};
@@ -25,8 +26,8 @@ use endpoint::Answer;
 use endpoint::Call;
 use endpoint::Endpoint;
 use endpoint::Reply;
-use notation::fitting;
 use notation::read_octets;
+use notation::smaller;
 use octets::append::push_octet;
 use octets::spans::after;
 use octets::spans::up_to;
@@ -127,7 +128,7 @@ fn push_answer(
     push_end(detailed, up_to(room, written_by(reply)), endpoint, out, k)
 }
 
-// Event n, with as many octets of room as are asked for and there.
+// Event n, with as many octets of room as are wanted, or all.
 fn handle(
     endpoint: Endpoint,
     n: u64,
@@ -135,14 +136,14 @@ fn handle(
     call: Call,
     m: &[u8],
     room: &mut [u8],
-    asked: usize,
+    wanted: usize,
     out: &mut [u8],
     at: usize,
 ) -> Stepped
-    ensures { λ r. ⌜ Does (configInside (endpoint .config)) (handled detailed (configurationBy (endpoint .config)) (bookOf endpoint) n (some (eventOf call (now (m .entry)))) (now (room .entry)) (min asked (length (now (room .entry))))) (now (room .exit)) (now (out .entry)) (now (out .exit)) at r ⌝ }
+    ensures { λ r. ⌜ Does (configInside (endpoint .config)) (handled detailed (configurationBy (endpoint .config)) (bookOf endpoint) n (some (eventOf call (now (m .entry)))) (now (room .entry)) (min wanted (length (now (room .entry))))) (now (room .exit)) (now (out .entry)) (now (out .exit)) at r ⌝ }
 {
     let state = endpoint.state;
-    let w = fitting(asked, room.len());
+    let w = smaller(wanted, room.len());
     let answer = give(endpoint, call, m, room, w);
     let k = push_answer(n, call, state, answer, detailed, room, out, at);
     let left = answer.endpoint;
@@ -156,7 +157,7 @@ fn handle(
     }
 }
 
-// The event of a message whose digits are t, if they are such.
+// The event of a message, if t is its digits. Its octets then stand at the front of octets.
 fn read_message(t: &[u8], octets: &mut [u8]) -> Ready
     requires { ⌜ length (now t) / 2 ≤ length (now octets) ⌝ }
     ensures { λ r. ⌜ readyBy (now (octets .exit)) r ≡ messageBy (now (t .entry)) ⌝ }
@@ -170,9 +171,10 @@ fn read_message(t: &[u8], octets: &mut [u8]) -> Ready
     Ready::Nothing
 }
 
-// The event of the line s, which stands without the prefix that names the length of a buffer.
+// The event of the line s, which stands without the prefix that names the length of a buffer. The octets of a message then stand
+// at the front of octets.
 fn read_line(s: &[u8], whole: bool, octets: &mut [u8]) -> Ready
-    requires { ⌜ 600 ≤ length (now octets) ⌝ }
+    requires { ⌜ mostLine / 2 ≤ length (now octets) ⌝ }
     ensures { λ r. ⌜ readyBy (now (octets .exit)) r ≡ askedIn whole (now (s .entry)) ⌝ }
 {
     if whole {

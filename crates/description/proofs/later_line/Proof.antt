@@ -1,4 +1,4 @@
--- `later_line` meets its contract: a line behind the media line is one of its attributes, or says nothing, or is wrong.
+-- `later_line` meets its contract: a line after the media line is one of its attributes, or says nothing, or is wrong.
 -- Assumes nothing.
 use borrow.Author.Needs.{needs}
 use Rattle.description.proofs.later_line.Statement.{statement}

@@ -34,8 +34,8 @@ enum-known-letter c = search needs
 enum-told : tie.Need-enum-told Inv-loop μ-loop
 enum-told c = search needs
 
-refuse-requires : tie.Need-refuse-requires Inv-loop μ-loop
-refuse-requires c κs = search (preambles, needs)
+by-type-requires : tie.Need-by-type-requires Inv-loop μ-loop
+by-type-requires c κs = search (preambles, needs)
 
 returns : tie.Need-returns Inv-loop μ-loop
 returns c = search needs
@@ -46,8 +46,8 @@ text-requires c κs = search needs
 is-ipbcp-requires : tie.Need-is-ipbcp-requires Inv-loop μ-loop
 is-ipbcp-requires c κs = search needs
 
-refuse-requires-2 : tie.Need-refuse-requires-2 Inv-loop μ-loop
-refuse-requires-2 c κs = search (preambles, needs)
+by-type-requires-2 : tie.Need-by-type-requires-2 Inv-loop μ-loop
+by-type-requires-2 c κs = search (preambles, needs)
 
 returns-2 : tie.Need-returns-2 Inv-loop μ-loop
 returns-2 c = search needs
@@ -70,8 +70,8 @@ enum-known-more c = search needs
 enum-told-2 : tie.Need-enum-told-2 Inv-loop μ-loop
 enum-told-2 c = search needs
 
-refuse-requires-3 : tie.Need-refuse-requires-3 Inv-loop μ-loop
-refuse-requires-3 c κs = search (preambles, needs)
+by-type-requires-3 : tie.Need-by-type-requires-3 Inv-loop μ-loop
+by-type-requires-3 c κs = search (preambles, needs)
 
 returns-4 : tie.Need-returns-4 Inv-loop μ-loop
 returns-4 c = search needs
@@ -82,8 +82,8 @@ loop-less c = search (loop-falls, needs)
 loop-again : tie.Need-loop-again Inv-loop μ-loop
 loop-again c = (search (preambles, needs), search (preambles, needs))
 
-refuse-requires-4 : tie.Need-refuse-requires-4 Inv-loop μ-loop
-refuse-requires-4 c κs = search (preambles, needs)
+by-type-requires-4 : tie.Need-by-type-requires-4 Inv-loop μ-loop
+by-type-requires-4 c κs = search (preambles, needs)
 
 returns-5 : tie.Need-returns-5 Inv-loop μ-loop
 returns-5 c = search needs
@@ -99,11 +99,11 @@ read-short-spec =
     next-line-requires
     enum-known-letter
     enum-told
-    refuse-requires
+    by-type-requires
     returns
     text-requires
     is-ipbcp-requires
-    refuse-requires-2
+    by-type-requires-2
     returns-2
     read-value-requires
     read-typed-requires
@@ -111,9 +111,9 @@ read-short-spec =
     preamble-line-requires
     enum-known-more
     enum-told-2
-    refuse-requires-3
+    by-type-requires-3
     returns-4
     loop-less
     loop-again
-    refuse-requires-4
+    by-type-requires-4
     returns-5)

@@ -21,8 +21,8 @@ Inv-loop t dst₀ n most j₀ dst j =
 abbrev μ-loop : tie.MeasureT-loop
 μ-loop t dst₀ n most j₀ dst j = most - j
 
-fitting-requires : tie.Need-fitting-requires Inv-loop μ-loop
-fitting-requires c κs = search needs
+smaller-requires : tie.Need-smaller-requires Inv-loop μ-loop
+smaller-requires c κs = search needs
 
 loop-holds : tie.Need-loop-holds Inv-loop μ-loop
 loop-holds c = search (readings, needs)
@@ -96,7 +96,7 @@ read-octets-spec =
     (tie.spec
     Inv-loop
     μ-loop
-    fitting-requires
+    smaller-requires
     loop-holds
     add-digit
     shared-slice-read-digit

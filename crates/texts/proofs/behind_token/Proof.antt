@@ -3,7 +3,7 @@
 use borrow.Author.Needs.{needs}
 use Rattle.texts.proofs.behind_token.Statement.{statement}
 use Rattle.texts.proofs.behind_token.Tie as tie
-use Rattle.texts.proofs.LengthLaws.{behinds}
+use Rattle.texts.proofs.LengthLaws.{behindTokens}
 
 find-from-requires : tie.Need-find-from-requires
 find-from-requires c κs = search needs
@@ -12,7 +12,7 @@ slice-aggregate-result : tie.Need-slice-aggregate-result
 slice-aggregate-result c = search needs
 
 returns : tie.Need-returns
-returns c = search (behinds, needs)
+returns c = search (behindTokens, needs)
 
 add-after : tie.Need-add-after
 add-after c = search needs
@@ -21,7 +21,7 @@ after-requires : tie.Need-after-requires
 after-requires c κs = search needs
 
 returns-2 : tie.Need-returns-2
-returns-2 c = search (behinds, needs)
+returns-2 c = search (behindTokens, needs)
 
 pub behind-token-spec : {M : Type 1} → statement M
 behind-token-spec =

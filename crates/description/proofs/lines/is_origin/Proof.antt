@@ -1,4 +1,4 @@
--- `lines::is_origin` meets its contract: what stands behind three tokens is a host, or not.
+-- `lines::is_origin` meets its contract: what stands after three tokens is a host, or not.
 -- Assumes nothing.
 use borrow.Author.Needs.{needs}
 use Rattle.description.proofs.lines.is_origin.Statement.{statement}

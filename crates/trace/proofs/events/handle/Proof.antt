@@ -5,8 +5,8 @@ use Rattle.trace.proofs.events.handle.Statement.{statement}
 use Rattle.trace.proofs.events.handle.Tie as tie
 use Rattle.trace.proofs.EventLaws.{handled-is}
 
-fitting-requires : tie.Need-fitting-requires
-fitting-requires c κs = search needs
+smaller-requires : tie.Need-smaller-requires
+smaller-requires c κs = search needs
 
 give-requires : tie.Need-give-requires
 give-requires c κs = search needs
@@ -27,7 +27,7 @@ pub handle-spec : {M : Type 1} → statement M
 handle-spec =
     tie.close
     (tie.spec
-    fitting-requires
+    smaller-requires
     give-requires
     push-answer-requires
     same-length

@@ -1,8 +1,8 @@
--- `refuse` meets its contract: version and type say which number it is.
+-- `by_type` meets its contract: version and type say which number it is.
 -- Assumes nothing.
 use borrow.Author.Needs.{needs}
-use Rattle.ipbcp.proofs.refuse.Statement.{statement}
-use Rattle.ipbcp.proofs.refuse.Tie as tie
+use Rattle.ipbcp.proofs.by_type.Statement.{statement}
+use Rattle.ipbcp.proofs.by_type.Tie as tie
 use Rattle.ipbcp.proofs.ReadLaws.{byTypes}
 
 read-head-requires : tie.Need-read-head-requires
@@ -29,8 +29,8 @@ returns-3 c = search (byTypes, needs)
 returns-4 : tie.Need-returns-4
 returns-4 c = search (byTypes, needs)
 
-pub refuse-spec : {M : Type 1} → statement M
-refuse-spec =
+pub by-type-spec : {M : Type 1} → statement M
+by-type-spec =
     tie.close
     (tie.spec
     read-head-requires
