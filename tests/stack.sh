@@ -7,7 +7,7 @@
 set -uo pipefail
 cd "$(dirname "$0")/.." || exit 2
 # KiB of stack
-limit=256
+limit=192
 # Linux moves the start of a stack down by up to 8 KiB, at random, so what the gate is given is run so often.
 turns=20
 directory=${1:-target/bin}
