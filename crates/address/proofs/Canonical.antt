@@ -22,8 +22,8 @@ use Rattle.address.specs.declared.Parsed.the-variants.{Unicast}
 use Rattle.address.specs.Kinds.{isUnicast, kind4}
 use Rattle.address.specs.Parts.{allParts, inBase}
 use Rattle.address.specs.Ipv4.{isOctet, octetValue, isDotted, dottedValue, readV4}
-use Rattle.address.specs.Ipv6.{isGroup, groupValue, partsOf, kindOf, full, beforeGap, afterGap, hasGap, filled, gapped, readV6}
-use Rattle.address.specs.Canonical.{eachAfter, joined, numbersOf, ipv4Text, addressText}
+use Rattle.address.specs.Ipv6.{isGroup, groupValue, partsOf, kindOfGroups, full, beforeGap, afterGap, hasGap, filled, gapped, readV6}
+use Rattle.address.specs.Canonical.{eachAfter, joined, dottedNumbers, ipv4Text, addressText}
 use Rattle.address.proofs.KindLaws.{cond-told, kind4-told, kind6-told}
 use Rattle.address.proofs.PartLaws.{Below, base-below, below-values}
 use Rattle.address.proofs.Ipv6Laws.{groups-below, filled-below, length-filled}
@@ -72,8 +72,8 @@ read-again-4 s a e = again-4 a (read-host-4 s a e)
 data Host6 : Address → Type 0 where
   host6 : (high low : ℕ) → high < 2 ^ 64 → low < 2 ^ 64 → isUnicast (V6 high low) ≡ true → Host6 (V6 high low)
 
-groups-host : (gs : List ℕ) (a : Address) → Below 65536 gs → length gs ≡ 8 → kindOf gs ≡ Unicast a → Host6 a
-unfolding kindOf
+groups-host : (gs : List ℕ) (a : Address) → Below 65536 gs → length gs ≡ 8 → kindOfGroups gs ≡ Unicast a → Host6 a
+unfolding kindOfGroups
 groups-host gs a s h e =
     let n = inBase 65536 0 gs in
     let b : n < 2 ^ 64 * 2 ^ 64 = rw h at (base-below 65536 gs 0 0 s (omega arith)) in
@@ -83,14 +83,14 @@ groups-host gs a s h e =
 full-host : (ps : List (List ℕ)) (a : Address) → full ps ≡ Unicast a → Host6 a
 unfolding full
 full-host ps a e =
-    let (t, x) = cond-told (allParts isGroup ps && eqb (length ps) 8) (kindOf (map groupValue ps)) a e in
+    let (t, x) = cond-told (allParts isGroup ps && eqb (length ps) 8) (kindOfGroups (map groupValue ps)) a e in
     let (p, q) = and-eq-true-iff (allParts isGroup ps) (eqb (length ps) 8) .0 t in
     groups-host (map groupValue ps) a (groups-below ps p) (length-map ps groupValue ∙ eqb-true (length ps) 8 q) x
 
 gapped-host : (ls rs : List (List ℕ)) (a : Address) → gapped ls rs ≡ Unicast a → Host6 a
 unfolding gapped
 gapped-host ls rs a e =
-    let (t, x) = cond-told (allParts isGroup ls && (allParts isGroup rs && leb (length ls + length rs) 7)) (kindOf (filled ls rs)) a e in
+    let (t, x) = cond-told (allParts isGroup ls && (allParts isGroup rs && leb (length ls + length rs) 7)) (kindOfGroups (filled ls rs)) a e in
     let (p, q) = and-eq-true-iff (allParts isGroup ls) (allParts isGroup rs && leb (length ls + length rs) 7) .0 t in
     let (r, m) = and-eq-true-iff (allParts isGroup rs) (leb (length ls + length rs) 7) .0 q in
     groups-host (filled ls rs) a (filled-below ls rs p r) (length-filled ls rs (leb-true (length ls + length rs) 7 m)) x
@@ -116,7 +116,7 @@ has-here c (x ∷ xs) ys = rw (has-here c xs ys) (or-true (eqb x c))
 
 -- the texts of the two families differ: one has a dot
 dot-4 : (a : Address) → Host4 a → has 46 (addressText a) ≡ true
-unfolding addressText ipv4Text numbersOf joined eachAfter
+unfolding addressText ipv4Text dottedNumbers joined eachAfter
 dot-4 a (host4 n h u) = has-here 46 (numberText (n / 2 ^ 24 % 256)) _
 
 dot-6 : (a : Address) → Host6 a → has 46 (addressText a) ≡ false

@@ -11,11 +11,11 @@ use borrow.Author.Tests.{le-leb, lt-leb, eq-eqb, ne-eqb}
 use Rattle.address.specs.declared.Parsed.{Parsed}
 use Rattle.address.specs.declared.Parsed.the-variants.{Unreadable}
 use Rattle.address.specs.declared.ipv6.Halves.{Halves}
-use Rattle.address.specs.declared.ipv6.Side.{Side}
-use Rattle.address.specs.declared.ipv6.Side.the-variants.{Groups, NoSide}
+use Rattle.address.specs.declared.ipv6.GapSide.{GapSide}
+use Rattle.address.specs.declared.ipv6.GapSide.the-variants.{Groups, NoSide}
 use Rattle.address.specs.Kinds.{kind6}
 use Rattle.address.specs.Parts.{allParts, inBase}
-use Rattle.address.specs.Ipv6.{isGroup, groupValue, partsOf, kindOf, full, beforeGap, afterGap, filled, gapped, readV6}
+use Rattle.address.specs.Ipv6.{isGroup, groupValue, partsOf, kindOfGroups, full, beforeGap, afterGap, filled, gapped, readV6}
 use Rattle.address.specs.Steps.{pushAll, sideFrom}
 use Rattle.address.proofs.GapLaws.{gap-room, take-gap, has-gap, no-gap}
 use Rattle.address.proofs.SideLaws.{told-groups, told-none}
@@ -38,14 +38,14 @@ unfolding filled
 length-filled ls rs h = simp (length-append, length-replicate, length-map) (omega arith)
 
 -- eight groups, shifted in one after the other, are the address that they stand for
-kind-is : (gs : List ℕ) (d : Halves) → Below 65536 gs → length gs ≡ 8 → d ≡ pushAll (record { high = 0; low = 0 }) gs → kind6 (d .high) (d .low) ≡ kindOf gs
-unfolding kindOf halvesOf
+kind-is : (gs : List ℕ) (d : Halves) → Below 65536 gs → length gs ≡ 8 → d ≡ pushAll (record { high = 0; low = 0 }) gs → kind6 (d .high) (d .low) ≡ kindOfGroups gs
+unfolding kindOfGroups halvesOf
 kind-is gs d s h e =
     let p : d ≡ halvesOf (inBase 65536 0 gs) = e ∙ push-all-number gs 0 0 s (omega arith) (omega arith) in
     rw p
 
 -- `read_full`: y is what `read_side` answered
-module _ (s : List ℕ) (y : Side) (r : y ≡ sideFrom 0 (record { high = 0; low = 0 }) (partsOf s)) where
+module _ (s : List ℕ) (y : GapSide) (r : y ≡ sideFrom 0 (record { high = 0; low = 0 }) (partsOf s)) where
   pub full-bad : y ≡ NoSide → Unreadable ≡ full (partsOf s)
   unfolding full
   full-bad q = rw (told-none 0 _ (partsOf s) y r q)
@@ -66,12 +66,12 @@ module _ (s : List ℕ) (y : Side) (r : y ≡ sideFrom 0 (record { high = 0; low
         (k ∙ kind-is (map groupValue (partsOf s)) a (groups-below (partsOf s) p) (length-map (partsOf s) groupValue ∙ f) e)
 
 -- `read_gapped`: the left side, the right side, and the right side again after the zeros
-module _ (ls rs : List (List ℕ)) (y : Side) (r : y ≡ sideFrom 0 (record { high = 0; low = 0 }) ls) where
+module _ (ls rs : List (List ℕ)) (y : GapSide) (r : y ≡ sideFrom 0 (record { high = 0; low = 0 }) ls) where
   pub left-bad : y ≡ NoSide → Unreadable ≡ gapped ls rs
   unfolding gapped
   left-bad q = rw (told-none 0 _ ls y r q)
 
-  module _ (l : ℕ) (a : Halves) (q : y ≡ Groups l a) (y₂ : Side) (r₂ : y₂ ≡ sideFrom 0 (record { high = 0; low = 0 }) rs) where
+  module _ (l : ℕ) (a : Halves) (q : y ≡ Groups l a) (y₂ : GapSide) (r₂ : y₂ ≡ sideFrom 0 (record { high = 0; low = 0 }) rs) where
     pub right-bad : y₂ ≡ NoSide → Unreadable ≡ gapped ls rs
     unfolding gapped
     right-bad q₂ =
@@ -92,7 +92,7 @@ module _ (ls rs : List (List ℕ)) (y : Side) (r : y ≡ sideFrom 0 (record { hi
       pub many-both : l ≤ 7 → 7 - l < n → Unreadable ≡ gapped ls rs
       many-both h k = many (omega arith)
 
-      module _ (h : l ≤ 7) (k : n ≤ 7 - l) (b : Halves) (rb : b ≡ pushAll a (replicate (8 - (l + n)) 0)) (y₃ : Side) (r₃ : y₃ ≡ sideFrom 0 b rs) where
+      module _ (h : l ≤ 7) (k : n ≤ 7 - l) (b : Halves) (rb : b ≡ pushAll a (replicate (8 - (l + n)) 0)) (y₃ : GapSide) (r₃ : y₃ ≡ sideFrom 0 b rs) where
         pub again-bad : y₃ ≡ NoSide → Unreadable ≡ gapped ls rs
         again-bad q₃ =
             let (p₂, m₂, e₂) = told-groups 0 n _ a₂ rs y₂ r₂ q₂ in

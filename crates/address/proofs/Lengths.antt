@@ -13,7 +13,7 @@ use Rattle.octets.proofs.AppendLaws.{width-one, width-suc, length-last}
 use Rattle.address.specs.declared.Address.{Address}
 use Rattle.address.specs.declared.Address.the-variants.{V4, V6}
 use Rattle.address.specs.declared.write.Run.{Run}
-use Rattle.address.specs.Canonical.{eachAfter, joined, numbersOf, ipv4Text, groupText, fourOf, groupsOf, longestRun, shortened, ipv6Text, addressText}
+use Rattle.address.specs.Canonical.{eachAfter, joined, dottedNumbers, ipv4Text, groupText, fourGroups, groupsOf, longestRun, shortened, ipv6Text, addressText}
 use Rattle.address.proofs.WriteLaws.{width-few}
 use Rattle.address.proofs.RunLaws.{IsRun, longest-is}
 use Rattle.address.proofs.TextLaws.{length-group}
@@ -32,7 +32,7 @@ unfolding numberText
 length-octet n h = rw (length-last (widthFrom 19 n) n) (width-octet n h)
 
 length-ipv4 : (n : ℕ) → (0 < length (ipv4Text n)) × (length (ipv4Text n) ≤ 15)
-unfolding ipv4Text numbersOf joined eachAfter
+unfolding ipv4Text dottedNumbers joined eachAfter
 length-ipv4 n =
     let (p, a) = length-octet (n / 2 ^ 24 % 256) (omega arith) in
     let (q, b) = length-octet (n / 65536 % 256) (omega arith) in
@@ -63,7 +63,7 @@ length-shortened gs r h w =
     rw (le-ltb (r .len) 2 p) (omega arith, omega (arith, length-joined (take (r .start) gs), length-joined (drop (r .start + r .len) gs))))
 
 length-ipv6 : (high low : ℕ) → (0 < length (ipv6Text high low)) × (length (ipv6Text high low) ≤ 39)
-unfolding ipv6Text groupsOf fourOf
+unfolding ipv6Text groupsOf fourGroups
 length-ipv6 high low = length-shortened (groupsOf high low) (longestRun (groupsOf high low)) refl (longest-is (groupsOf high low))
 
 -- ---- either

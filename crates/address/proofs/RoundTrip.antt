@@ -22,8 +22,8 @@ use Rattle.address.specs.declared.write.Run.{Run}
 use Rattle.address.specs.Kinds.{isUnicast, kind4, kind6}
 use Rattle.address.specs.Parts.{allParts, inBase}
 use Rattle.address.specs.Ipv4.{isOctet, octetValue, isDotted, dottedValue, readV4}
-use Rattle.address.specs.Ipv6.{isGroup, groupValue, kindOf, full, beforeGap, afterGap, filled, gapped, readV6}
-use Rattle.address.specs.Canonical.{joined, numbersOf, ipv4Text, groupText, fourOf, groupsOf, longestRun, shortened, ipv6Text, addressText}
+use Rattle.address.specs.Ipv6.{isGroup, groupValue, kindOfGroups, full, beforeGap, afterGap, filled, gapped, readV6}
+use Rattle.address.specs.Canonical.{joined, dottedNumbers, ipv4Text, groupText, fourGroups, groupsOf, longestRun, shortened, ipv6Text, addressText}
 use Rattle.address.specs.Back.{fits, readLike}
 use Rattle.address.proofs.KindLaws.{kind4-is, kind6-is}
 use Rattle.address.proofs.PartLaws.{Below, none, one, below-take, below-drop, all-texts, values-texts}
@@ -42,17 +42,17 @@ below-mod : (b n : ℕ) (ns : List ℕ) → n % b < b → Below b ns → Below b
 below-mod b n ns h s = one h s
 
 -- ---- IPv4
-numbersOf-below : (n : ℕ) → Below 256 (numbersOf n)
-unfolding numbersOf
-numbersOf-below n =
+dottedNumbers-below : (n : ℕ) → Below 256 (dottedNumbers n)
+unfolding dottedNumbers
+dottedNumbers-below n =
     below-mod 256 _ _ (omega arith) (below-mod 256 _ _ (omega arith) (below-mod 256 _ _ (omega arith) (below-mod 256 _ _ (omega arith) none)))
 
 four-digits : (n a a′ b b′ c c′ d′ : ℕ) → a′ ≡ a → a * 256 + b′ ≡ b → b * 256 + c′ ≡ c → c * 256 + d′ ≡ n → (((0 * 256 + a′) * 256 + b′) * 256 + c′) * 256 + d′ ≡ n
 four-digits n a a′ b b′ c c′ d′ p q r s = omega arith
 
-numbersOf-value : (n : ℕ) → n < 2 ^ 32 → inBase 256 0 (numbersOf n) ≡ n
-unfolding inBase numbersOf
-numbersOf-value n h =
+dottedNumbers-value : (n : ℕ) → n < 2 ^ 32 → inBase 256 0 (dottedNumbers n) ≡ n
+unfolding inBase dottedNumbers
+dottedNumbers-value n h =
     four-digits n (n / 2 ^ 24) (n / 2 ^ 24 % 256) (n / 65536) (n / 65536 % 256) (n / 256) (n / 256 % 256) (n % 256)
     (omega arith) (digit n 65536 256) (digit n 256 256) (div-add-mod' n 256)
 
@@ -60,29 +60,29 @@ no-dot : (n : ℕ) → has 46 (numberText n) ≡ false
 unfolding isDigit
 no-dot n = number-has 46 n refl
 
-split-numbers : (n : ℕ) → splitOn 46 (ipv4Text n) ≡ map numberText (numbersOf n)
-unfolding ipv4Text numbersOf
+split-numbers : (n : ℕ) → splitOn 46 (ipv4Text n) ≡ map numberText (dottedNumbers n)
+unfolding ipv4Text dottedNumbers
 split-numbers n = split-joined 46 numberText no-dot _ _
 
-length-numbersOf : (n : ℕ) → length (numbersOf n) ≡ 4
-unfolding numbersOf
-length-numbersOf n = refl
+length-dottedNumbers : (n : ℕ) → length (dottedNumbers n) ≡ 4
+unfolding dottedNumbers
+length-dottedNumbers n = refl
 
 ipv4-read : (n : ℕ) → n < 2 ^ 32 → readV4 (ipv4Text n) ≡ kind4 n
 unfolding readV4 isDotted dottedValue
 ipv4-read n h =
     rw (
       split-numbers n,
-      all-texts 256 numberText isOctet octetValue octet-back (numbersOf n) (numbersOf-below n),
-      values-texts 256 numberText isOctet octetValue octet-back (numbersOf n) (numbersOf-below n),
-      length-map (numbersOf n) numberText,
-      length-numbersOf n,
-      numbersOf-value n h,
+      all-texts 256 numberText isOctet octetValue octet-back (dottedNumbers n) (dottedNumbers-below n),
+      values-texts 256 numberText isOctet octetValue octet-back (dottedNumbers n) (dottedNumbers-below n),
+      length-map (dottedNumbers n) numberText,
+      length-dottedNumbers n,
+      dottedNumbers-value n h,
     )
 
 -- ---- IPv6: the groups
 groupsOf-below : (high low : ℕ) → Below 65536 (groupsOf high low)
-unfolding groupsOf fourOf
+unfolding groupsOf fourGroups
 groupsOf-below high low =
     below-mod 65536 _ _ (omega arith) (below-mod 65536 _ _ (omega arith) (below-mod 65536 _ _ (omega arith) (below-mod 65536 _ _ (omega arith)
     (below-mod 65536 _ _ (omega arith) (below-mod 65536 _ _ (omega arith) (below-mod 65536 _ _ (omega arith) (below-mod 65536 _ _ (omega arith) none)))))))
@@ -99,13 +99,13 @@ half-value m n h =
     (omega arith) (digit n (2 ^ 32) 65536) (digit n 65536 65536) (div-add-mod' n 65536)
 
 groupsOf-value : (high low : ℕ) → high < 2 ^ 64 → low < 2 ^ 64 → inBase 65536 0 (groupsOf high low) ≡ high * 2 ^ 64 + low
-unfolding inBase groupsOf fourOf
+unfolding inBase groupsOf fourGroups
 groupsOf-value high low p q =
     ap (λ (n : ℕ). (((n * 65536 + low / 2 ^ 48 % 65536) * 65536 + low / 2 ^ 32 % 65536) * 65536 + low / 65536 % 65536) * 65536 + low % 65536) (half-value 0 high p ∙ omega arith)
     ∙ half-value high low q
 
-kind-groups : (high low : ℕ) → high < 2 ^ 64 → low < 2 ^ 64 → kindOf (groupsOf high low) ≡ kind6 high low
-unfolding kindOf halvesOf
+kind-groups : (high low : ℕ) → high < 2 ^ 64 → low < 2 ^ 64 → kindOfGroups (groupsOf high low) ≡ kind6 high low
+unfolding kindOfGroups halvesOf
 kind-groups high low p q =
     let e : halvesOf (inBase 65536 0 (groupsOf high low)) ≡ (let y : Halves = record { high = high; low = low } in y) = ap halvesOf (groupsOf-value high low p q) ∙ halves-of high low q in
     ap (λ (x : Halves). kind6 (x .high) (x .low)) e
@@ -117,7 +117,7 @@ groups-all gs s = all-texts 65536 groupText isGroup groupValue group-back gs s
 groups-values : (gs : List ℕ) → Below 65536 gs → map groupValue (map groupText gs) ≡ gs
 groups-values gs s = values-texts 65536 groupText isGroup groupValue group-back gs s
 
-full-back : (gs : List ℕ) → Below 65536 gs → length gs ≡ 8 → readV6 (joined 58 groupText gs) ≡ kindOf gs
+full-back : (gs : List ℕ) → Below 65536 gs → length gs ≡ 8 → readV6 (joined 58 groupText gs) ≡ kindOfGroups gs
 unfolding readV6 full beforeGap
 full-back gs s h =
     let e : beforeGap (joined 58 groupText gs) ≡ joined 58 groupText gs =
@@ -130,7 +130,7 @@ drop-past [] ys = refl
 drop-past (x ∷ xs) ys = rw suc-add (drop-past xs ys)
 
 gapped-back : (ls rs : List ℕ) → Below 65536 ls → Below 65536 rs → length ls + length rs ≤ 7
-    → readV6 (joined 58 groupText ls ++ (58 ∷ 58 ∷ joined 58 groupText rs)) ≡ kindOf (ls ++ (replicate (8 - (length ls + length rs)) 0 ++ rs))
+    → readV6 (joined 58 groupText ls ++ (58 ∷ 58 ∷ joined 58 groupText rs)) ≡ kindOfGroups (ls ++ (replicate (8 - (length ls + length rs)) 0 ++ rs))
 unfolding readV6 gapped filled afterGap
 gapped-back ls rs sl sr h =
     let xs = joined 58 groupText ls in
@@ -154,7 +154,7 @@ gapped-back ls rs sl sr h =
       groups-values rs sr,
     )
 
-shortened-back : (gs : List ℕ) (r : Run) → Below 65536 gs → length gs ≡ 8 → IsRun gs r → readV6 (shortened gs r) ≡ kindOf gs
+shortened-back : (gs : List ℕ) (r : Run) → Below 65536 gs → length gs ≡ 8 → IsRun gs r → readV6 (shortened gs r) ≡ kindOfGroups gs
 unfolding shortened
 shortened-back gs r s h w =
     let i = w .inside in
@@ -165,10 +165,10 @@ shortened-back gs r s h w =
     let n : 8 - (length (take (r .start) gs) + length (drop (r .start + r .len) gs)) ≡ r .len = omega arith in
     rw (le-ltb (r .len) 2 p)
     (gapped-back (take (r .start) gs) (drop (r .start + r .len) gs) (below-take 65536 (r .start) gs s) (below-drop 65536 (r .start + r .len) gs s) (omega arith)
-    ∙ ap kindOf (rw n (around gs r w))))
+    ∙ ap kindOfGroups (rw n (around gs r w))))
 
 length-groupsOf : (high low : ℕ) → length (groupsOf high low) ≡ 8
-unfolding groupsOf fourOf
+unfolding groupsOf fourGroups
 length-groupsOf high low = refl
 
 ipv6-read : (high low : ℕ) → high < 2 ^ 64 → low < 2 ^ 64 → readV6 (ipv6Text high low) ≡ kind6 high low

@@ -14,8 +14,8 @@ use Rattle.octets.specs.Split.{before, splitOn, findAt}
 use Rattle.octets.proofs.CaseLaws.{by-lt}
 use Rattle.octets.proofs.SplitLaws.{part-is, part-dot, part-last}
 use Rattle.address.specs.declared.ipv6.Halves.{Halves}
-use Rattle.address.specs.declared.ipv6.Side.{Side}
-use Rattle.address.specs.declared.ipv6.Side.the-variants.{Groups, NoSide}
+use Rattle.address.specs.declared.ipv6.GapSide.{GapSide}
+use Rattle.address.specs.declared.ipv6.GapSide.the-variants.{Groups, NoSide}
 use Rattle.address.specs.Parts.{allParts}
 use Rattle.address.specs.Ipv6.{isGroup, groupValue, partsOf}
 use Rattle.address.specs.Steps.{readGroup, pushed, pushAll, sideFrom}
@@ -73,7 +73,7 @@ side-start [] h p = absurd (omega arith)
 side-start (b ∷ bs) h p = refl
 
 -- One group: its text starts at i and ends at e, and y is what `read_group` answered on it. k groups were shifted into h before; x is the answer.
-module _ (s : List ℕ) (i k : ℕ) (h : Halves) (x : Side) (inv : sideFrom k h (splitOn 58 (drop i s)) ≡ x)
+module _ (s : List ℕ) (i k : ℕ) (h : Halves) (x : GapSide) (inv : sideFrom k h (splitOn 58 (drop i s)) ≡ x)
     (e : ℕ) (is : e ≡ findAt s 58 i) (y : Number) (r : y ≡ readGroup (take (e - i) (drop i s))) where
   read-is : y ≡ readGroup (before 58 (drop i s))
   read-is = r ∙ ap readGroup (part-is s 58 i e is)
@@ -98,7 +98,7 @@ module _ (s : List ℕ) (i k : ℕ) (h : Halves) (x : Side) (inv : sideFrom k h 
 pub ruleset sideRead = (side-empty, side-start, side-bad, side-more, side-end)
 
 -- what an answer says of the groups
-pub told-groups : (k n : ℕ) (h a : Halves) (ps : List (List ℕ)) (y : Side) → y ≡ sideFrom k h ps → y ≡ Groups n a
+pub told-groups : (k n : ℕ) (h a : Halves) (ps : List (List ℕ)) (y : GapSide) → y ≡ sideFrom k h ps → y ≡ Groups n a
     → (allParts isGroup ps ≡ true) × (n ≡ k + length ps) × (a ≡ pushAll h (map groupValue ps))
 unfolding sideFrom
 told-groups k n h a ps y e q = go (allParts isGroup ps) (sym e ∙ q)
@@ -108,7 +108,7 @@ told-groups k n h a ps y e q = go (allParts isGroup ps) (sym e ∙ q)
     go true q = (refl, cc, cc)
     go false q = let z : _≡_ {A = ℕ} 0 1 = cc in absurd (omega arith)
 
-pub told-none : (k : ℕ) (h : Halves) (ps : List (List ℕ)) (y : Side) → y ≡ sideFrom k h ps → y ≡ NoSide → allParts isGroup ps ≡ false
+pub told-none : (k : ℕ) (h : Halves) (ps : List (List ℕ)) (y : GapSide) → y ≡ sideFrom k h ps → y ≡ NoSide → allParts isGroup ps ≡ false
 unfolding sideFrom
 told-none k h ps y e q = go (allParts isGroup ps) (sym e ∙ q)
   where

@@ -1,6 +1,6 @@
 -- The texts of numbers: digits alone, so no separator is among them, and read as the number that they were written for.
 -- Assumes nothing.
-use Prim.Native.Nat.{ℕ, zero, suc, _+_, _*_, _/_, _%_, _^_, _<_}
+use Prim.Native.Nat.{ℕ, zero, suc, _+_, _-_, _*_, _/_, _%_, _^_, _<_}
 use mathlib.Core.Path.{_≡_, refl, sym, ap, _∙_}
 use mathlib.Core.List.{List, [], _∷_, _++_, map}
 use mathlib.Core.Bool.{Bool, true, false, _&&_, true≢false, and-true, and-assoc, and-eq-true-iff}
@@ -42,14 +42,14 @@ unfolding isHexDigit lowDigit
 digit-is d h =
     by-lt d 10 _
     (λ g. simp (lt-ltb d 10 g, le-ltb (48 + d) 48 (omega arith), le-leb (48 + d) 57 (omega arith)))
-    (λ g. simp (le-ltb d 10 g, le-ltb (87 + d) 48 (omega arith), lt-leb (87 + d) 57 (omega arith), le-ltb (87 + d) 65 (omega arith), lt-leb (87 + d) 70 (omega arith), le-leb 97 (87 + d) (omega arith), le-leb (87 + d) 102 (omega arith)))
+    (λ g. simp (le-ltb d 10 g, le-ltb (97 + (d - 10)) 48 (omega arith), lt-leb (97 + (d - 10)) 57 (omega arith), le-ltb (97 + (d - 10)) 65 (omega arith), lt-leb (97 + (d - 10)) 70 (omega arith), le-leb 97 (97 + (d - 10)) (omega arith), le-leb (97 + (d - 10)) 102 (omega arith)))
 
 digit-back : (d : ℕ) → d < 16 → hexValue (lowDigit d) ≡ d
 unfolding hexValue lowDigit
 digit-back d h =
     by-lt d 10 _
     (λ g. simp (lt-ltb d 10 g, le-ltb (48 + d) 48 (omega arith), le-leb (48 + d) 57 (omega arith)) (omega arith))
-    (λ g. simp (le-ltb d 10 g, le-ltb (87 + d) 48 (omega arith), lt-leb (87 + d) 57 (omega arith), le-ltb (87 + d) 65 (omega arith), lt-leb (87 + d) 70 (omega arith), le-ltb (87 + d) 97 (omega arith), le-leb (87 + d) 102 (omega arith)) (omega arith))
+    (λ g. simp (le-ltb d 10 g, le-ltb (97 + (d - 10)) 48 (omega arith), lt-leb (97 + (d - 10)) 57 (omega arith), le-ltb (97 + (d - 10)) 65 (omega arith), lt-leb (97 + (d - 10)) 70 (omega arith), le-ltb (97 + (d - 10)) 97 (omega arith), le-leb (97 + (d - 10)) 102 (omega arith)) (omega arith))
 
 hex-snoc : (xs : List ℕ) (b : ℕ) → allHex (xs ++ (b ∷ [])) ≡ (allHex xs && isHexDigit b)
 unfolding allHex

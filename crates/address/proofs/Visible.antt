@@ -17,13 +17,13 @@ use Rattle.octets.proofs.RoundTrip.{number-has}
 use Rattle.address.specs.declared.Address.{Address}
 use Rattle.address.specs.declared.Address.the-variants.{V4, V6}
 use Rattle.address.specs.declared.write.Run.{Run}
-use Rattle.address.specs.Canonical.{joined, numbersOf, ipv4Text, groupText, groupsOf, longestRun, shortened, ipv6Text, addressText}
+use Rattle.address.specs.Canonical.{joined, dottedNumbers, ipv4Text, groupText, groupsOf, longestRun, shortened, ipv6Text, addressText}
 use Rattle.address.proofs.TextLaws.{group-has}
 use Rattle.address.proofs.JoinLaws.{has-append, has-joined}
 
 ipv4-has : (c n : ℕ) → isDigit c ≡ false → (46 ≡ c → ⊥) → has c (ipv4Text n) ≡ false
 unfolding ipv4Text
-ipv4-has c n p e = has-joined c 46 numberText e (λ m. number-has c m p) (numbersOf n)
+ipv4-has c n p e = has-joined c 46 numberText e (λ m. number-has c m p) (dottedNumbers n)
 
 shortened-has : (c : ℕ) (gs : List ℕ) (r : Run) → isHexDigit c ≡ false → (58 ≡ c → ⊥) → has c (shortened gs r) ≡ false
 unfolding shortened has

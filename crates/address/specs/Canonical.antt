@@ -1,11 +1,12 @@
 -- Document 01, "Message, version 1", the paragraph on addresses: the one text that is written for an address. IPv4 is four
 -- decimal numbers; IPv6 is written after RFC 5952, 4, and never with decimal numbers.
-use Prim.Native.Nat.{ℕ, zero, suc, _+_, _/_, _%_, _^_}
+use Prim.Native.Nat.{ℕ, zero, suc, _+_, _-_, _/_, _%_, _^_}
 use mathlib.Core.List.{List, [], _∷_, _++_}
 use mathlib.Core.Bool.{cond}
 use lib.ListN.{take, drop}
 use lib.Dec.{ltb, eqb}
 use Rattle.octets.specs.Append.{numberText}
+use Rattle.octets.specs.Text.{ascii, char}
 use Rattle.address.specs.declared.Address.{Address}
 use Rattle.address.specs.declared.Address.the-variants.{V4, V6}
 use Rattle.address.specs.declared.write.Run.{Run}
@@ -23,17 +24,16 @@ joined c f (g ∷ gs) = f g ++ eachAfter c f gs
 
 -- ---- IPv4
 -- its four numbers
-unfoldable pub numbersOf : ℕ → List ℕ
-numbersOf n = n / 2 ^ 24 % 256 ∷ n / 65536 % 256 ∷ n / 256 % 256 ∷ n % 256 ∷ []
+unfoldable pub dottedNumbers : ℕ → List ℕ
+dottedNumbers n = n / 2 ^ 24 % 256 ∷ n / 65536 % 256 ∷ n / 256 % 256 ∷ n % 256 ∷ []
 
--- '.' is 46
 unfoldable pub ipv4Text : ℕ → List ℕ
-ipv4Text n = joined 46 numberText (numbersOf n)
+ipv4Text n = joined (char ".") numberText (dottedNumbers n)
 
 -- ---- IPv6: a group (RFC 5952, 4.1 and 4.3)
 -- the digit that stands for d, in lower case
 unfoldable pub lowDigit : ℕ → ℕ
-lowDigit d = cond (ltb d 10) (48 + d) (87 + d)
+lowDigit d = cond (ltb d 10) (char "0" + d) (char "a" + (d - 10))
 
 -- g's last k digits
 unfoldable pub lastHex : ℕ → ℕ → List ℕ
@@ -50,11 +50,11 @@ groupText g = lastHex (hexWidth g) g
 
 -- ---- IPv6: the run of zeros that "::" stands for (RFC 5952, 4.2)
 -- the four groups of one half
-unfoldable pub fourOf : ℕ → List ℕ
-fourOf n = n / 2 ^ 48 % 65536 ∷ n / 2 ^ 32 % 65536 ∷ n / 65536 % 65536 ∷ n % 65536 ∷ []
+unfoldable pub fourGroups : ℕ → List ℕ
+fourGroups n = n / 2 ^ 48 % 65536 ∷ n / 2 ^ 32 % 65536 ∷ n / 65536 % 65536 ∷ n % 65536 ∷ []
 
 unfoldable pub groupsOf : ℕ → ℕ → List ℕ
-groupsOf high low = fourOf high ++ fourOf low
+groupsOf high low = fourGroups high ++ fourGroups low
 
 -- how many zeros gs starts with
 unfoldable pub zeros : List ℕ → ℕ
@@ -77,8 +77,8 @@ longestRun gs = longestFrom (record { start = 0; len = 0 }) 0 gs
 -- the groups with "::" for a run of two or more
 unfoldable pub shortened : List ℕ → Run → List ℕ
 shortened gs r =
-    cond (ltb (r .len) 2) (joined 58 groupText gs)
-    (joined 58 groupText (take (r .start) gs) ++ (58 ∷ 58 ∷ joined 58 groupText (drop (r .start + r .len) gs)))
+    cond (ltb (r .len) 2) (joined (char ":") groupText gs)
+    (joined (char ":") groupText (take (r .start) gs) ++ (ascii "::" ++ joined (char ":") groupText (drop (r .start + r .len) gs)))
 
 unfoldable pub ipv6Text : ℕ → ℕ → List ℕ
 ipv6Text high low = shortened (groupsOf high low) (longestRun (groupsOf high low))

@@ -7,6 +7,7 @@ use lib.ListN.{length}
 use lib.Dec.{leb, eqb}
 use Rattle.octets.specs.Split.{splitOn}
 use Rattle.octets.specs.Decimal.{readNumber, onNumber}
+use Rattle.octets.specs.Text.{char}
 use Rattle.address.specs.declared.Parsed.{Parsed}
 use Rattle.address.specs.declared.Parsed.the-variants.{Unreadable}
 use Rattle.address.specs.Kinds.{kind4}
@@ -27,6 +28,6 @@ isDotted ps = allParts isOctet ps && eqb (length ps) 4
 unfoldable pub dottedValue : List (List ℕ) → ℕ
 dottedValue ps = inBase 256 0 (map octetValue ps)
 
--- what s is read as; '.' is 46
+-- what s is read as
 unfoldable pub readV4 : List ℕ → Parsed
-readV4 s = cond (isDotted (splitOn 46 s)) (kind4 (dottedValue (splitOn 46 s))) Unreadable
+readV4 s = cond (isDotted (splitOn (char ".") s)) (kind4 (dottedValue (splitOn (char ".") s))) Unreadable

@@ -8,6 +8,7 @@ use lib.ListN.{length, drop, replicate}
 use lib.Dec.{leb, ltb, eqb}
 use Rattle.octets.specs.Split.{splitOn}
 use Rattle.octets.specs.Hex.{hexValue, allHex}
+use Rattle.octets.specs.Text.{char}
 use Rattle.address.specs.declared.Parsed.{Parsed}
 use Rattle.address.specs.declared.Parsed.the-variants.{Unreadable}
 use Rattle.address.specs.Kinds.{kind6}
@@ -21,25 +22,25 @@ isGroup p = leb 1 (length p) && (leb (length p) 4 && allHex p)
 unfoldable pub groupValue : List ℕ → ℕ
 groupValue p = inBase 16 0 (map hexValue p)
 
--- the texts of the groups on one side of a "::", or of all: none where it is empty, else those between the colons; ':' is 58
+-- the texts of the groups on one side of a "::", or of all: none where it is empty, else those between the colons
 unfoldable pub partsOf : List ℕ → List (List ℕ)
 partsOf [] = []
-partsOf (b ∷ bs) = splitOn 58 (b ∷ bs)
+partsOf (b ∷ bs) = splitOn (char ":") (b ∷ bs)
 
 -- what eight groups are read as, by the two halves of their number of 128 bits
-unfoldable pub kindOf : List ℕ → Parsed
-kindOf gs = kind6 (inBase 65536 0 gs / 2 ^ 64) (inBase 65536 0 gs % 2 ^ 64)
+unfoldable pub kindOfGroups : List ℕ → Parsed
+kindOfGroups gs = kind6 (inBase 65536 0 gs / 2 ^ 64) (inBase 65536 0 gs % 2 ^ 64)
 
 -- ---- without "::"
 unfoldable pub full : List (List ℕ) → Parsed
-full ps = cond (allParts isGroup ps && eqb (length ps) 8) (kindOf (map groupValue ps)) Unreadable
+full ps = cond (allParts isGroup ps && eqb (length ps) 8) (kindOfGroups (map groupValue ps)) Unreadable
 
 -- ---- with "::"
 -- what stands before the first "::" of s, all of s where there is none
 unfoldable pub beforeGap : List ℕ → List ℕ
 beforeGap [] = []
 beforeGap (b ∷ []) = b ∷ []
-beforeGap (b ∷ c ∷ bs) = cond (eqb b 58 && eqb c 58) [] (b ∷ beforeGap (c ∷ bs))
+beforeGap (b ∷ c ∷ bs) = cond (eqb b (char ":") && eqb c (char ":")) [] (b ∷ beforeGap (c ∷ bs))
 
 -- what stands behind it
 unfoldable pub afterGap : List ℕ → List ℕ
@@ -54,7 +55,7 @@ filled ls rs = map groupValue ls ++ (replicate (8 - (length ls + length rs)) 0 +
 
 -- it stands for one group at least
 unfoldable pub gapped : List (List ℕ) → List (List ℕ) → Parsed
-gapped ls rs = cond (allParts isGroup ls && (allParts isGroup rs && leb (length ls + length rs) 7)) (kindOf (filled ls rs)) Unreadable
+gapped ls rs = cond (allParts isGroup ls && (allParts isGroup rs && leb (length ls + length rs) 7)) (kindOfGroups (filled ls rs)) Unreadable
 
 -- ---- what s is read as
 -- A second "::", or a colon at an end, leaves an empty part, which is no group.

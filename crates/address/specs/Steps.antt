@@ -9,11 +9,12 @@ use Rattle.octets.specs.declared.Number.{Number}
 use Rattle.octets.specs.declared.Number.the-variants.{Value, Bad}
 use Rattle.octets.specs.Split.{before, findAt}
 use Rattle.octets.specs.Decimal.{numberFrom, readNumber, onNumber}
+use Rattle.octets.specs.Text.{char}
 use Rattle.address.specs.declared.ipv4.Part.{Part}
 use Rattle.address.specs.declared.ipv4.Part.the-variants.{Octet, NoOctet}
 use Rattle.address.specs.declared.ipv6.Halves.{Halves}
-use Rattle.address.specs.declared.ipv6.Side.{Side}
-use Rattle.address.specs.declared.ipv6.Side.the-variants.{Groups, NoSide}
+use Rattle.address.specs.declared.ipv6.GapSide.{GapSide}
+use Rattle.address.specs.declared.ipv6.GapSide.the-variants.{Groups, NoSide}
 use Rattle.address.specs.declared.write.Run.{Run}
 use Rattle.address.specs.Parts.{allParts}
 use Rattle.address.specs.Ipv6.{isGroup, groupValue}
@@ -26,11 +27,11 @@ octetTo e z = onNumber z (λ n. cond (leb n 255) (Octet n e) NoOctet) NoOctet
 
 -- the part of s that starts at i, its number with leading zeros or not
 unfoldable pub digitsAt : List ℕ → ℕ → Part
-digitsAt s i = octetTo (findAt s 46 i) (numberFrom 0 (before 46 (drop i s)))
+digitsAt s i = octetTo (findAt s (char ".") i) (numberFrom 0 (before (char ".") (drop i s)))
 
 -- and without them
 unfoldable pub octetAt : List ℕ → ℕ → Part
-octetAt s i = octetTo (findAt s 46 i) (readNumber (before 46 (drop i s)))
+octetAt s i = octetTo (findAt s (char ".") i) (readNumber (before (char ".") (drop i s)))
 
 -- ---- reading IPv6
 -- the group that all of p stands for
@@ -50,7 +51,7 @@ pushAll h [] = h
 pushAll h (g ∷ gs) = pushAll (pushed h g) gs
 
 -- k groups were shifted in, and now those of ps are
-unfoldable pub sideFrom : ℕ → Halves → List (List ℕ) → Side
+unfoldable pub sideFrom : ℕ → Halves → List (List ℕ) → GapSide
 sideFrom k h ps = cond (allParts isGroup ps) (Groups (k + length ps) (pushAll h (map groupValue ps))) NoSide
 
 -- ---- writing

@@ -32,19 +32,19 @@ fn read_digits(s: &[u8], i: usize) -> Part
     let mut k = i;
     while k < s.len() {
         let b = s[k];
-        if b == 46 {
+        if b == b'.' {
             return Part::Octet {
                 value: n as u8,
                 end: k,
             };
         }
-        if b < 48 {
+        if b < b'0' {
             return Part::NoOctet;
         }
-        if 57 < b {
+        if b'9' < b {
             return Part::NoOctet;
         }
-        n = n * 10 + (b - 48) as u32;
+        n = n * 10 + (b - b'0') as u32;
         if 255 < n {
             return Part::NoOctet;
         }
@@ -69,7 +69,7 @@ fn read_part(s: &[u8], i: usize) -> Part
     if end - i < 2 {
         return Part::Octet { value, end };
     }
-    if s[i] == 48 {
+    if s[i] == b'0' {
         return Part::NoOctet;
     }
     Part::Octet { value, end }

@@ -3,6 +3,7 @@ ghost use mathlib.Core.Path.{_≡_};
 ghost use mathlib.Core.Bool.{_&&_};
 ghost use lib.Dec.{eqb};
 ghost use lib.ListN.{length, replicate};
+ghost use Rattle.octets.specs.Text.{char};
 ghost use Rattle.address.specs.Kinds.{kind6};
 ghost use Rattle.address.specs.Ipv6.{beforeGap, partsOf, full, gapped, readV6};
 ghost use Rattle.address.specs.Steps.{readGroup, pushed, pushAll, sideFrom};
@@ -21,7 +22,7 @@ struct Halves {
 }
 
 // One side of a "::": how many groups it has, and the halves with them shifted in.
-enum Side {
+enum GapSide {
     Groups { count: usize, halves: Halves },
     NoSide,
 }
@@ -64,9 +65,9 @@ fn read_group(s: &[u8]) -> Number
 
 // Both are colons.
 fn both_colons(a: u8, b: u8) -> bool
-    ensures { λ r. ⌜ r ≡ (eqb a 58 && eqb b 58) ⌝ }
+    ensures { λ r. ⌜ r ≡ (eqb a (char ":") && eqb b (char ":")) ⌝ }
 {
-    a == 58 && b == 58
+    a == b':' && b == b':'
 }
 
 // Where the first "::" of s starts, or the end.
@@ -107,11 +108,11 @@ fn push_zeros(h: Halves, n: usize) -> Halves
 }
 
 // Reads the groups of one side, and shifts them into h.
-fn read_side(s: &[u8], h: Halves) -> Side
+fn read_side(s: &[u8], h: Halves) -> GapSide
     ensures { λ r. ⌜ r ≡ sideFrom 0 h (partsOf (now (s .entry))) ⌝ }
 {
     if s.len() < 1 {
-        return Side::Groups {
+        return GapSide::Groups {
             count: 0,
             halves: h,
         };
@@ -120,14 +121,14 @@ fn read_side(s: &[u8], h: Halves) -> Side
     let mut k: usize = 0;
     let mut i = 0;
     loop {
-        let e = find_from(s, 58, i);
+        let e = find_from(s, b':', i);
         let Number::Value(g) = read_group(&s[i..e]) else {
-            return Side::NoSide;
+            return GapSide::NoSide;
         };
         a = push(a, g);
         k += 1;
         if s.len() <= e {
-            return Side::Groups {
+            return GapSide::Groups {
                 count: k,
                 halves: a,
             };
@@ -140,7 +141,7 @@ fn read_side(s: &[u8], h: Halves) -> Side
 fn read_full(s: &[u8]) -> Parsed
     ensures { λ r. ⌜ r ≡ full (partsOf (now (s .entry))) ⌝ }
 {
-    let Side::Groups { count, halves } = read_side(s, Halves { high: 0, low: 0 }) else {
+    let GapSide::Groups { count, halves } = read_side(s, Halves { high: 0, low: 0 }) else {
         return Parsed::Unreadable;
     };
     if count != 8 {
@@ -153,14 +154,14 @@ fn read_full(s: &[u8]) -> Parsed
 fn read_gapped(left: &[u8], right: &[u8]) -> Parsed
     ensures { λ r. ⌜ r ≡ gapped (partsOf (now (left .entry))) (partsOf (now (right .entry))) ⌝ }
 {
-    let Side::Groups {
+    let GapSide::Groups {
         count: l,
         halves: a,
     } = read_side(left, Halves { high: 0, low: 0 })
     else {
         return Parsed::Unreadable;
     };
-    let Side::Groups {
+    let GapSide::Groups {
         count: r,
         halves: _,
     } = read_side(right, Halves { high: 0, low: 0 })
@@ -174,7 +175,7 @@ fn read_gapped(left: &[u8], right: &[u8]) -> Parsed
         return Parsed::Unreadable;
     }
     let b = push_zeros(a, 8 - (l + r));
-    let Side::Groups {
+    let GapSide::Groups {
         count: _,
         halves: d,
     } = read_side(right, b)

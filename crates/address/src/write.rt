@@ -3,6 +3,7 @@ ghost use mathlib.Core.Path.{_≡_};
 ghost use mathlib.Core.List.{_∷_, _++_};
 ghost use Prim.Native.Nat.{_<_};
 ghost use lib.ListN.{drop};
+ghost use Rattle.octets.specs.Text.{ascii, char};
 ghost use Rattle.octets.specs.Append.{Appends, numberText};
 ghost use Rattle.address.specs.Canonical.{lowDigit, groupText, eachAfter, joined, zeros, better, longestRun, shortened, ipv4Text, ipv6Text, addressText};
 ghost use Rattle.address.specs.Steps.{HexWidth, Longest};
@@ -27,9 +28,9 @@ fn hex_digit(d: u16) -> u8
     ensures { λ r. ⌜ r ≡ lowDigit d ⌝ }
 {
     if d < 10 {
-        return 48 + d as u8;
+        return b'0' + d as u8;
     }
-    87 + d as u8
+    b'a' + (d - 10) as u8
 }
 
 // How many digits g has.
@@ -67,15 +68,15 @@ fn push_group(g: u16, out: &mut [u8], at: usize) -> usize
 
 // Appends a colon and a group.
 fn push_behind(g: u16, out: &mut [u8], at: usize) -> usize
-    ensures { λ r. ⌜ Appends (now (out .entry)) at (58 ∷ groupText g) r (now (out .exit)) ⌝ }
+    ensures { λ r. ⌜ Appends (now (out .entry)) at (char ":" ∷ groupText g) r (now (out .exit)) ⌝ }
 {
-    let k = push_octet(58, out, at);
+    let k = push_octet(b':', out, at);
     push_group(g, out, k)
 }
 
 // Appends the groups, each behind a colon.
 fn push_each(gs: &[u16], out: &mut [u8], at: usize) -> usize
-    ensures { λ r. ⌜ Appends (now (out .entry)) at (eachAfter 58 groupText (now (gs .entry))) r (now (out .exit)) ⌝ }
+    ensures { λ r. ⌜ Appends (now (out .entry)) at (eachAfter (char ":") groupText (now (gs .entry))) r (now (out .exit)) ⌝ }
 {
     let mut j = 0;
     let mut k = at;
@@ -88,7 +89,7 @@ fn push_each(gs: &[u16], out: &mut [u8], at: usize) -> usize
 
 // Appends the groups with colons between them.
 fn push_groups(gs: &[u16], out: &mut [u8], at: usize) -> usize
-    ensures { λ r. ⌜ Appends (now (out .entry)) at (joined 58 groupText (now (gs .entry))) r (now (out .exit)) ⌝ }
+    ensures { λ r. ⌜ Appends (now (out .entry)) at (joined (char ":") groupText (now (gs .entry))) r (now (out .exit)) ⌝ }
 {
     if gs.len() < 1 {
         return at;
@@ -140,7 +141,7 @@ fn longest(gs: &[u16]) -> Run
 
 // Appends "::" and the groups behind it.
 fn push_gap(gs: &[u16], out: &mut [u8], at: usize) -> usize
-    ensures { λ r. ⌜ Appends (now (out .entry)) at (58 ∷ 58 ∷ joined 58 groupText (now (gs .entry))) r (now (out .exit)) ⌝ }
+    ensures { λ r. ⌜ Appends (now (out .entry)) at (ascii "::" ++ joined (char ":") groupText (now (gs .entry))) r (now (out .exit)) ⌝ }
 {
     let k = push(b"::", out, at);
     push_groups(gs, out, k)
@@ -180,7 +181,7 @@ fn push_ipv6(high: u64, low: u64, out: &mut [u8], at: usize) -> usize
 
 // Appends two numbers with a dot between them.
 fn push_two(a: u8, b: u8, out: &mut [u8], at: usize) -> usize
-    ensures { λ r. ⌜ Appends (now (out .entry)) at (numberText a ++ (46 ∷ numberText b)) r (now (out .exit)) ⌝ }
+    ensures { λ r. ⌜ Appends (now (out .entry)) at (numberText a ++ (char "." ∷ numberText b)) r (now (out .exit)) ⌝ }
 {
     let k = push_number_then(a as u64, 46, out, at);
     push_number(b as u64, out, k)
@@ -188,9 +189,9 @@ fn push_two(a: u8, b: u8, out: &mut [u8], at: usize) -> usize
 
 // Appends a dot and two numbers more.
 fn push_two_more(a: u8, b: u8, out: &mut [u8], at: usize) -> usize
-    ensures { λ r. ⌜ Appends (now (out .entry)) at (46 ∷ (numberText a ++ (46 ∷ numberText b))) r (now (out .exit)) ⌝ }
+    ensures { λ r. ⌜ Appends (now (out .entry)) at (char "." ∷ (numberText a ++ (char "." ∷ numberText b))) r (now (out .exit)) ⌝ }
 {
-    let k = push_octet(46, out, at);
+    let k = push_octet(b'.', out, at);
     push_two(a, b, out, k)
 }
 

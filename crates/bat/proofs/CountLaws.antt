@@ -19,17 +19,17 @@ use Rattle.bat.specs.declared.Framed.the-variants.{Whole, Unframed, Ende
 use Rattle.bat.specs.declared.Counted.{Counted}
 use Rattle.bat.specs.declared.Counted.the-variants.{Elements, Refused}
 use Rattle.bat.specs.Framing.{Element, whole, Front, front, first, unframed, ended, elements, refused, mostOctets, roomFor, cut}
-use Rattle.bat.specs.Meaning.{wholeOf, elementIn, frontIn, WholeLength, countIn, countOf}
+use Rattle.bat.specs.Meaning.{wholeLength, elementIn, frontIn, WholeLength, countIn, countOf}
 use Rattle.bat.proofs.WalkLaws.{front-within, front-nil, front-whole}
 use Rattle.bat.proofs.DataLaws.{elements-ended, elements-unframed, elements-first}
 
 -- ---- the element that an answer stands for at the front of s
-whole-in : (s : List ℕ) (f : Frame) (z : Front) → frontIn s (Whole f) ≡ some z → (wholeOf f ≤ length s) × (z ≡ first (elementIn s f) (drop (wholeOf f) s))
+whole-in : (s : List ℕ) (f : Frame) (z : Front) → frontIn s (Whole f) ≡ some z → (wholeLength f ≤ length s) × (z ≡ first (elementIn s f) (drop (wholeLength f) s))
 unfolding frontIn
 whole-in s f z p =
-    by-le (wholeOf f) (length s) _
-    (λ h. let q : some (first (elementIn s f) (drop (wholeOf f) s)) ≡ some z = rw (le-leb (wholeOf f) (length s) h) at p in (h, cc))
-    (λ h. let q : none ≡ some z = rw (lt-leb (wholeOf f) (length s) h) at p in absurd (let z : _≡_ {A = ℕ} 0 1 = cc in omega arith))
+    by-le (wholeLength f) (length s) _
+    (λ h. let q : some (first (elementIn s f) (drop (wholeLength f) s)) ≡ some z = rw (le-leb (wholeLength f) (length s) h) at p in (h, cc))
+    (λ h. let q : none ≡ some z = rw (lt-leb (wholeLength f) (length s) h) at p in absurd (let z : _≡_ {A = ℕ} 0 1 = cc in omega arith))
 
 module _ (s : List ℕ) (x : Framed) (is : frontIn s x ≡ some (front s)) where
   pub frame-ended : x ≡ Ended → front s ≡ ended
@@ -40,10 +40,10 @@ module _ (s : List ℕ) (x : Framed) (is : frontIn s x ≡ some (front s)) where
   unfolding frontIn
   frame-unframed e = let p : some unframed ≡ some (front s) = rw e at is in cc
 
-  pub frame-is : (f : Frame) → x ≡ Whole f → front s ≡ first (elementIn s f) (drop (wholeOf f) s)
+  pub frame-is : (f : Frame) → x ≡ Whole f → front s ≡ first (elementIn s f) (drop (wholeLength f) s)
   frame-is f e = whole-in s f (front s) (rw e at is) .1
 
-  pub frame-fits : (f : Frame) → x ≡ Whole f → wholeOf f ≤ length s
+  pub frame-fits : (f : Frame) → x ≡ Whole f → wholeLength f ≤ length s
   frame-fits f e = whole-in s f (front s) (rw e at is) .0
 
   module _ (f : Frame) (e : x ≡ Whole f) (w : ℕ) (l : WholeLength f w) where

@@ -18,7 +18,7 @@ use Rattle.bat.specs.declared.Size.the-variants.{Of, Missing}
 use Rattle.bat.specs.declared.Frame.{Frame}
 use Rattle.bat.specs.declared.Framed.the-variants.{Whole, Unframed, Ended}
 use Rattle.bat.specs.Framing.{octet, Length, sized, unsized, lengthOf, unmarked, countedBy, elementBy, sizedBy, front}
-use Rattle.bat.specs.Meaning.{sizeIn, elementIn, frontIn, HeadLength}
+use Rattle.bat.specs.Meaning.{sizeIn, elementIn, frontIn, HeaderLength}
 
 -- ---- octets
 pub octet-none : (s : List ℕ) (k : ℕ) → length s ≤ k → 0 ≡ octet k s
@@ -162,7 +162,7 @@ module _ (s : List ℕ) (one : 1 ≤ length s) (t : List ℕ) (is : t ≡ drop 1
             (some-is _ _ (sym (counted ∙ rw (← mark) (rw (lt-ltb x (length c) (omega (arith, size-c))) (rw (rest, size-is, extension-is, contents-is, o) refl)))))
 
 -- ---- the contents
-pub text-contents : (s : List ℕ) (f : Frame) (at : ℕ) (r : List ℕ) → HeadLength f at → r ≡ textOf s (record { at = at; len = f .length }) → r ≡ elementIn s f .contents
+pub text-contents : (s : List ℕ) (f : Frame) (at : ℕ) (r : List ℕ) → HeaderLength f at → r ≡ textOf s (record { at = at; len = f .length }) → r ≡ elementIn s f .contents
 unfolding textOf elementIn
 text-contents s f at r h e = e ∙ rw (h .is)
 

@@ -8,7 +8,7 @@ use lib.ListN.{length, getD, drop, drop-of-length-le}
 use native.Mathlib.Omega.{arith}
 use Rattle.codes.specs.Codes.{isIndicator}
 use Rattle.octets.proofs.Laws.{next}
-use Rattle.bat.specs.Values.{ituCodec, rightCodec, codecOf, allIndicators}
+use Rattle.bat.specs.Values.{ituCodec, rightSingle, singleCodec, allIndicators}
 
 -- ---- codecs
 pub itu-none : (s : List ℕ) → length s < 1 → true ≡ ituCodec s
@@ -16,12 +16,12 @@ unfolding ituCodec
 itu-none [] h = refl
 itu-none (b ∷ s) h = absurd (omega arith)
 
-pub codec-none : (s : List ℕ) → length s < 1 → false ≡ rightCodec (codecOf s)
-unfolding rightCodec
+pub codec-none : (s : List ℕ) → length s < 1 → false ≡ rightSingle (singleCodec s)
+unfolding rightSingle
 codec-none [] h = refl
 codec-none (b ∷ s) h = absurd (omega arith)
 
-pub codec-some : (s t : List ℕ) (r : Bool) → t ≡ drop 1 s → r ≡ rightCodec (record { organisation = getD s 0 0; information = t }) → r ≡ rightCodec (codecOf s)
+pub codec-some : (s t : List ℕ) (r : Bool) → t ≡ drop 1 s → r ≡ rightSingle (record { organisation = getD s 0 0; information = t }) → r ≡ rightSingle (singleCodec s)
 codec-some s t r e p = rw e at p
 
 -- ---- indicators, at position i; x is whether all of them are

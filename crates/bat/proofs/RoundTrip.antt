@@ -13,10 +13,10 @@ use native.Mathlib.Nat.{div-add-mod'}
 use native.Mathlib.Omega.{arith}
 use borrow.Author.Tests.{le-leb, lt-leb, lt-ltb, le-ltb, ne-eqb, leb-true, ltb-true}
 use Rattle.codes.specs.Codes.{isSignal}
-use Rattle.bat.specs.Framing.{sized, lengthOf, unmarked, Element, head, whole, first, countedBy, elementBy, sizedBy, front, onFront, walk, mostOctets}
-use Rattle.bat.specs.Values.{Diagnostic, ListedCodec, Kind, Lasting, untimed, lasting, Value, action, backbone, address, codecs, single, report, characteristics, control, tunnelling, controlUnit, signal, capability, indicators, signalType, duration, decoded, meant, rightCodec, actionIn, backboneIn, addressIn, singleIn, diagnosticsIn, reportIn, characteristicsIn, controlIn, tunnellingIn, unitIn, capabilityIn, indicatorsIn, rightType, typeIn, durationIn, allCodecs, offence, withCodec, onCodecs, isSingle, codecThen, codecsIn, codecListIn, isType, isDuration, lastBy, timedBy, signalBy, signalIn, reading}
-use Rattle.bat.specs.Writing.{sizeText, elementText, wordText, codecText, codecsText, diagnosticsText, lastingText, identifierOf, contentsText, allCodecsRight, inRange, valueText}
-use Rattle.bat.specs.Back.{sevenBitCodecs, sevenBitLasting, sevenBits, ReadBack}
+use Rattle.bat.specs.Framing.{sized, lengthOf, unmarked, Element, header, whole, first, countedBy, elementBy, sizedBy, front, onFront, walk, mostOctets}
+use Rattle.bat.specs.Values.{Diagnostic, InnerCodec, InnerType, InnerDuration, untimed, lasting, Value, action, backbone, address, codecs, single, report, characteristics, control, tunnelling, controlUnit, signal, capability, indicators, signalType, duration, decoded, meant, rightSingle, actionIn, backboneIn, addressIn, singleIn, diagnosticsIn, reportIn, characteristicsIn, controlIn, tunnellingIn, unitIn, capabilityIn, indicatorsIn, rightType, typeIn, durationIn, allCodecs, offence, withSingle, onCodecs, isSingle, codecThen, codecsIn, codecListIn, isType, isDuration, lastBy, timedBy, signalBy, signalIn, decoding}
+use Rattle.bat.specs.Writing.{sizeText, elementText, sixteenBitsText, codecText, codecsText, diagnosticsText, innerDurationText, identifierOf, contentsText, allSinglesRight, valueInRange, valueText}
+use Rattle.bat.specs.Back.{sevenBitCodecs, sevenBitDuration, sevenBits, ReadBack}
 use Rattle.octets.proofs.CaseLaws.{by-lt}
 use Rattle.bat.proofs.WalkLaws.{front-nil, walk-ended, walk-first}
 
@@ -39,7 +39,7 @@ abbrev pub elementOf : ℕ → ℕ → List ℕ → Element
 elementOf i c s = record { identifier = i; size = sizeText (suc (length s)); compatibility = 128 + c; extension = []; contents = s }
 
 pub whole-elementOf : (i c : ℕ) (s : List ℕ) → whole (elementOf i c s) ≡ elementText i c s
-unfolding whole head elementText
+unfolding whole header elementText
 whole-elementOf i c s = simp append-assoc
 
 countedBy-marked : (i : ℕ) (size : List ℕ) (b : ℕ) (s t : List ℕ) → 128 ≤ b → countedBy i size (b ∷ s) t ≡ first (record { identifier = i; size = size; compatibility = b; extension = []; contents = s }) t
@@ -67,13 +67,13 @@ meant-marked c h = omega arith
 
 -- ---- values
 -- 4
-walk-codecsText : (cs : List ListedCodec) (d : ℕ) → allCodecsRight cs ≡ true → sevenBitCodecs cs ≡ true → length (codecsText cs) ≤ 2046 → walk codecThen offence (allCodecs []) d (codecsText cs) ≡ allCodecs cs
-unfolding codecsText allCodecsRight sevenBitCodecs codecThen isSingle withCodec
+walk-codecsText : (cs : List InnerCodec) (d : ℕ) → allSinglesRight cs ≡ true → sevenBitCodecs cs ≡ true → length (codecsText cs) ≤ 2046 → walk codecThen offence (allCodecs []) d (codecsText cs) ≡ allCodecs cs
+unfolding codecsText allSinglesRight sevenBitCodecs codecThen isSingle withSingle
 walk-codecsText [] d r s h = walk-ended codecThen offence (allCodecs []) d [] front-nil
 walk-codecsText (c ∷ cs) d r s h =
     let x = codecText (c .codec) in
     let e = elementOf 5 (c .compatibility) x in
-    let (right, rights) = and-eq-true-iff (rightCodec (c .codec)) (allCodecsRight cs) .0 r in
+    let (right, rights) = and-eq-true-iff (rightSingle (c .codec)) (allSinglesRight cs) .0 r in
     let (small, smalls) = and-eq-true-iff (ltb (c .compatibility) 128) (sevenBitCodecs cs) .0 s in
     let m : meant (128 + c .compatibility) ≡ c .compatibility = meant-marked (c .compatibility) (ltb-true _ _ small) in
     let l = length-append (elementText 5 (c .compatibility) x) (codecsText cs) in
@@ -81,12 +81,12 @@ walk-codecsText (c ∷ cs) d r s h =
     walk-first codecThen offence (allCodecs []) d (codecsText (c ∷ cs)) e (codecsText cs) (front-elementText 5 (c .compatibility) x (codecsText cs) (omega arith))
     ∙ rw (walk-codecsText cs (d + length (whole e)) rights smalls (omega arith), right, m)
 
-length-codecsText : (cs : List ListedCodec) → 1 ≤ length cs → 1 ≤ length (codecsText cs)
+length-codecsText : (cs : List InnerCodec) → 1 ≤ length cs → 1 ≤ length (codecsText cs)
 unfolding codecsText elementText
 length-codecsText [] h = h
 length-codecsText (c ∷ cs) h = omega arith
 
-codecListIn-codecsText : (cs : List ListedCodec) → 1 ≤ length cs → allCodecsRight cs ≡ true → sevenBitCodecs cs ≡ true → length (codecsText cs) ≤ 2046 → codecListIn (codecsText cs) ≡ decoded (codecs cs)
+codecListIn-codecsText : (cs : List InnerCodec) → 1 ≤ length cs → allSinglesRight cs ≡ true → sevenBitCodecs cs ≡ true → length (codecsText cs) ≤ 2046 → codecListIn (codecsText cs) ≡ decoded (codecs cs)
 unfolding codecListIn codecsIn onCodecs
 codecListIn-codecsText cs one r s h =
     rw (ne-eqb (length (codecsText cs)) 0 (omega (arith, length-codecsText cs one)), walk-codecsText cs 0 r s h)
@@ -98,29 +98,29 @@ diagnosticsIn-diagnosticsText [] = refl
 diagnosticsIn-diagnosticsText (d ∷ ds) = rw (diagnosticsIn-diagnosticsText ds, div-add-mod' (d .index) 256)
 
 -- 11
-timedBy-lastingText : (k : Kind) (d : ℕ) (t : Lasting) → sevenBitLasting t ≡ true → timedBy k d (lastingText t) ≡ decoded (signal k t)
-unfolding timedBy lastingText onFront lastBy isDuration sevenBitLasting
-timedBy-lastingText k d untimed s = rw front-nil
-timedBy-lastingText k d (lasting c n) s =
-    let f : front (elementText 15 c (wordText n)) ≡ first (elementOf 15 c (wordText n)) [] = rw append-nil at (front-elementText 15 c (wordText n) [] (omega arith)) in
+timedBy-innerDurationText : (k : InnerType) (d : ℕ) (t : InnerDuration) → sevenBitDuration t ≡ true → timedBy k d (innerDurationText t) ≡ decoded (signal k t)
+unfolding timedBy innerDurationText onFront lastBy isDuration sevenBitDuration
+timedBy-innerDurationText k d untimed s = rw front-nil
+timedBy-innerDurationText k d (lasting c n) s =
+    let f : front (elementText 15 c (sixteenBitsText n)) ≡ first (elementOf 15 c (sixteenBitsText n)) [] = rw append-nil at (front-elementText 15 c (sixteenBitsText n) [] (omega arith)) in
     rw (f, meant-marked c (ltb-true _ _ s), div-add-mod' n 256)
 
-signalIn-elementText : (k : Kind) (t : Lasting) → isSignal (k .kind) ≡ true → sevenBits (signal k t) ≡ true → signalIn (elementText 14 (k .compatibility) (k .kind ∷ []) ++ lastingText t) ≡ decoded (signal k t)
+signalIn-elementText : (k : InnerType) (t : InnerDuration) → isSignal (k .kind) ≡ true → sevenBits (signal k t) ≡ true → signalIn (elementText 14 (k .compatibility) (k .kind ∷ []) ++ innerDurationText t) ≡ decoded (signal k t)
 unfolding signalIn signalBy onFront isType rightType sevenBits
 signalIn-elementText k t r s =
     let c = k .compatibility in
     let x = k .kind ∷ [] in
-    let (small, last) = and-eq-true-iff (ltb c 128) (sevenBitLasting t) .0 s in
-    rw (front-elementText 14 c x (lastingText t) (omega arith), r, meant-marked c (ltb-true _ _ small)) (timedBy-lastingText k (length (whole (elementOf 14 c x))) t last)
+    let (small, last) = and-eq-true-iff (ltb c 128) (sevenBitDuration t) .0 s in
+    rw (front-elementText 14 c x (innerDurationText t) (omega arith), r, meant-marked c (ltb-true _ _ small)) (timedBy-innerDurationText k (length (whole (elementOf 14 c x))) t last)
 
 -- all kinds
-pub reading-contentsText : (v : Value) → inRange v ≡ true → sevenBits v ≡ true → length (contentsText v) ≤ 2046 → reading (identifierOf v) (contentsText v) ≡ decoded v
-unfolding inRange sevenBits contentsText identifierOf reading actionIn backboneIn addressIn singleIn reportIn Option·elim characteristicsIn controlIn tunnellingIn unitIn capabilityIn unmarked indicatorsIn rightType typeIn durationIn
+pub reading-contentsText : (v : Value) → valueInRange v ≡ true → sevenBits v ≡ true → length (contentsText v) ≤ 2046 → decoding (identifierOf v) (contentsText v) ≡ decoded v
+unfolding valueInRange sevenBits contentsText identifierOf decoding actionIn backboneIn addressIn singleIn reportIn Option·elim characteristicsIn controlIn tunnellingIn unitIn capabilityIn unmarked indicatorsIn rightType typeIn durationIn
 reading-contentsText (action n) r s h = rw r
 reading-contentsText (backbone t) r s h = rw r
 reading-contentsText (address t) r s h = rw r
 reading-contentsText (codecs cs) r s h =
-    let (one, rights) = and-eq-true-iff (leb 1 (length cs)) (allCodecsRight cs) .0 r in
+    let (one, rights) = and-eq-true-iff (leb 1 (length cs)) (allSinglesRight cs) .0 r in
     codecListIn-codecsText cs (leb-true _ _ one) rights s h
 reading-contentsText (single c) r s h = rw r
 reading-contentsText (report n ds) r s h = rw (diagnosticsIn-diagnosticsText ds)
@@ -140,7 +140,7 @@ reading-contentsText (signalType n) r s h = rw r
 reading-contentsText (duration n) r s h = rw (div-add-mod' n 256)
 
 -- ---- an element as a whole
-pub read-written : (c : ℕ) (v : Value) (rest : List ℕ) → c < 128 → inRange v ≡ true → sevenBits v ≡ true → length (valueText c v) ≤ mostOctets → ReadBack c v rest
+pub read-written : (c : ℕ) (v : Value) (rest : List ℕ) → c < 128 → valueInRange v ≡ true → sevenBits v ≡ true → length (valueText c v) ≤ mostOctets → ReadBack c v rest
 unfolding valueText
 read-written c v rest small r s h =
     let i = identifierOf v in

@@ -11,7 +11,7 @@ use lib.Dec.{ltb, eqb}
 use native.Mathlib.Omega.{arith}
 use native.Mathlib.Nat.{le-refl}
 use borrow.Author.Tests.{le-leb, lt-leb, lt-ltb, le-ltb, eq-eqb, ne-eqb}
-use Rattle.bat.specs.Framing.{octet, Length, sized, unsized, lengthOf, unmarked, Element, head, whole, Front, first, unframed, ended, countedBy, elementBy, sizedBy, front, onFront, walkFrom, walk, fold}
+use Rattle.bat.specs.Framing.{octet, Length, sized, unsized, lengthOf, unmarked, Element, header, whole, Front, first, unframed, ended, countedBy, elementBy, sizedBy, front, onFront, walkFrom, walk, fold}
 use Rattle.octets.proofs.CaseLaws.{by-eq, by-lt, by-le}
 
 -- ---- length
@@ -66,7 +66,7 @@ record Within (s : List ℕ) (e : Element) (t : List ℕ) : Type 0 where
 
 module _ (i : ℕ) (s size : List ℕ) (e : Element) (u : List ℕ) where
   within-counted : (c t : List ℕ) → lengthOf s ≡ sized size (length c) (c ++ t) → countedBy i size c t ≡ first e u → Within (i ∷ s) e u
-  unfolding countedBy head whole
+  unfolding countedBy header whole
   within-counted c t l p =
       by-lt (unmarked c) (length c) _
       (λ h. let q = rw (lt-ltb (unmarked c) (length c) h) at p in
@@ -112,7 +112,7 @@ module _ (s : List ℕ) (e : Element) (t : List ℕ) (p : front s ≡ first e t)
 
   -- in front of the contents stand at least identifier, length and compatibility
   pub front-contents : length (e .contents) + 3 ≤ length (whole e)
-  unfolding whole head
+  unfolding whole header
   front-contents = let (small, two, one, is) = size-small (drop 1 s) _ _ _ front-size in simp length-append (omega arith)
 
   pub front-whole : 3 ≤ length (whole e)

@@ -5,17 +5,17 @@ use mathlib.Core.List.{List, [], _∷_, _++_}
 use mathlib.Core.Bool.{Bool, true, _&&_}
 use lib.Dec.{ltb}
 use Rattle.bat.specs.Framing.{Element, whole, front, first}
-use Rattle.bat.specs.Values.{ListedCodec, Lasting, untimed, lasting, Value, action, backbone, address, codecs, single, report, characteristics, control, tunnelling, controlUnit, signal, capability, indicators, signalType, duration, decoded, meant, reading}
+use Rattle.bat.specs.Values.{InnerCodec, InnerDuration, untimed, lasting, Value, action, backbone, address, codecs, single, report, characteristics, control, tunnelling, controlUnit, signal, capability, indicators, signalType, duration, decoded, meant, decoding}
 use Rattle.bat.specs.Writing.{identifierOf, valueText}
 
 -- The compatibility bits of a constructor's inner elements are seven, as they are read.
-unfoldable pub sevenBitCodecs : List ListedCodec → Bool
+unfoldable pub sevenBitCodecs : List InnerCodec → Bool
 sevenBitCodecs [] = true
 sevenBitCodecs (c ∷ cs) = ltb (c .compatibility) 128 && sevenBitCodecs cs
 
-unfoldable pub sevenBitLasting : Lasting → Bool
-sevenBitLasting untimed = true
-sevenBitLasting (lasting c n) = ltb c 128
+unfoldable pub sevenBitDuration : InnerDuration → Bool
+sevenBitDuration untimed = true
+sevenBitDuration (lasting c n) = ltb c 128
 
 unfoldable pub sevenBits : Value → Bool
 sevenBits (action n) = true
@@ -28,7 +28,7 @@ sevenBits (characteristics n) = true
 sevenBits (control s) = true
 sevenBits (tunnelling b) = true
 sevenBits (controlUnit n l) = true
-sevenBits (signal k t) = ltb (k .compatibility) 128 && sevenBitLasting t
+sevenBits (signal k t) = ltb (k .compatibility) 128 && sevenBitDuration t
 sevenBits (capability b) = true
 sevenBits (indicators s) = true
 sevenBits (signalType n) = true
@@ -42,4 +42,4 @@ pub record ReadBack (c : ℕ) (v : Value) (rest : List ℕ) : Type 0 where
   pub covers : whole element ≡ valueText c v
   pub identifies : element .identifier ≡ identifierOf v
   pub means : meant (element .compatibility) ≡ c
-  pub decodes : reading (element .identifier) (element .contents) ≡ decoded v
+  pub decodes : decoding (element .identifier) (element .contents) ≡ decoded v

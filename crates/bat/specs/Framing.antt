@@ -52,12 +52,12 @@ pub record Element : Type 0 where
   pub contents : List ℕ
 
 -- the octets in front of the contents
-unfoldable pub head : Element → List ℕ
-head e = e .identifier ∷ (e .size ++ (e .compatibility ∷ e .extension))
+unfoldable pub header : Element → List ℕ
+header e = e .identifier ∷ (e .size ++ (e .compatibility ∷ e .extension))
 
 -- all its octets
 unfoldable pub whole : Element → List ℕ
-whole e = head e ++ e .contents
+whole e = header e ++ e .contents
 
 -- What stands at the front of octets: an element and what is behind it, nothing that can be framed, or
 -- the end.

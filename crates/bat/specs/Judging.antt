@@ -7,8 +7,8 @@ use lib.ListN.{length}
 use lib.Dec.{eqb}
 use Rattle.bat.specs.declared.Place.{Place}
 use Rattle.bat.specs.declared.Place.the-variants.{Itself, Inner}
-use Rattle.bat.specs.Framing.{Element, head, Cut, refused, taken, cut}
-use Rattle.bat.specs.Values.{Diagnostic, Value, Reading, decoded, unrecognised, reading}
+use Rattle.bat.specs.Framing.{Element, header, Cut, refused, taken, cut}
+use Rattle.bat.specs.Values.{Diagnostic, Value, Decoding, decoded, unrecognised, decoding}
 
 -- ---- the diagnostic
 -- Its index: 0 for a fault of the element itself. The octets of a constructor's head stand between its
@@ -49,17 +49,17 @@ judgement pass i c index =
     record { outcome = outcomeOf pass c; notice = noticeOf pass c; diagnostic = record { identifier = i; index = index } }
 
 -- What is made of an element: its value, or the judgement of one that is not recognised.
-pub data Verdict : Type 0 where
-  known : Value → Verdict
-  unknown : Judgement → Verdict
+pub data Finding : Type 0 where
+  known : Value → Finding
+  unknown : Judgement → Finding
 
 -- An element is judged by its own compatibility octet; those of its inner elements are not asked.
-unfoldable pub verdictBy : Bool → Element → Reading → Verdict
-verdictBy pass e (decoded v) = known v
-verdictBy pass e (unrecognised place) = unknown (judgement pass (e .identifier) (e .compatibility) (indexBy (length (head e)) place))
+unfoldable pub findingBy : Bool → Element → Decoding → Finding
+findingBy pass e (decoded v) = known v
+findingBy pass e (unrecognised place) = unknown (judgement pass (e .identifier) (e .compatibility) (indexBy (length (header e)) place))
 
-unfoldable pub verdict : Bool → Element → Verdict
-verdict pass e = verdictBy pass e (reading (e .identifier) (e .contents))
+unfoldable pub finding : Bool → Element → Finding
+finding pass e = findingBy pass e (decoding (e .identifier) (e .contents))
 
 -- ---- the data
 -- Listed are the diagnostics of elements that ask notice and to be discarded, alone or with the data.
@@ -67,36 +67,36 @@ unfoldable pub isListed : Judgement → Bool
 isListed j = (eqb (j .outcome) 1 || eqb (j .outcome) 2) && j .notice
 
 -- the diagnostics ds, and before them that of this verdict where it is listed
-unfoldable pub listedWith : Verdict → List Diagnostic → List Diagnostic
+unfoldable pub listedWith : Finding → List Diagnostic → List Diagnostic
 listedWith (known v) ds = ds
 listedWith (unknown j) ds = cond (isListed j) (j .diagnostic ∷ ds) ds
 
-unfoldable pub listed : List Verdict → List Diagnostic
+unfoldable pub listed : List Finding → List Diagnostic
 listed [] = []
 listed (v ∷ vs) = listedWith v (listed vs)
 
 -- an element says n
-unfoldable pub says : ℕ → Verdict → Bool
+unfoldable pub says : ℕ → Finding → Bool
 says n (known v) = false
 says n (unknown j) = eqb (j .outcome) n
 
-unfoldable pub someSays : ℕ → List Verdict → Bool
+unfoldable pub someSays : ℕ → List Finding → Bool
 someSays n [] = false
 someSays n (v ∷ vs) = says n v || someSays n vs
 
 -- The data's outcome: one element that says release (3) is enough for it; failing that, one that says discard data
 -- (2); and failing that it is neither (0).
-unfoldable pub dataOutcome : List Verdict → ℕ
+unfoldable pub dataOutcome : List Finding → ℕ
 dataOutcome vs = cond (someSays 3 vs) 3 (cond (someSays 2 vs) 2 0)
 
 -- Application data is refused by its number, or it has these verdicts, one for each element.
-pub data Answer : Type 0 where
-  refusedData : ℕ → Answer
-  judged : List Verdict → Answer
+pub data JudgedData : Type 0 where
+  refusedData : ℕ → JudgedData
+  judgedElements : List Finding → JudgedData
 
-unfoldable pub judgedBy : Bool → Cut → Answer
+unfoldable pub judgedBy : Bool → Cut → JudgedData
 judgedBy pass (refused n) = refusedData n
-judgedBy pass (taken es) = judged (map (verdict pass) es)
+judgedBy pass (taken es) = judgedElements (map (finding pass) es)
 
-unfoldable pub judgedData : Bool → ℕ → List ℕ → Answer
+unfoldable pub judgedData : Bool → ℕ → List ℕ → JudgedData
 judgedData pass entries s = judgedBy pass (cut entries s)

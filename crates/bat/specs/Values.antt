@@ -21,24 +21,24 @@ pub record Diagnostic : Type 0 where
   pub index : ℕ
 
 -- Organisation, and the octets behind it: type and configuration.
-pub record Codec : Type 0 where
+pub record SingleCodec : Type 0 where
   pub organisation : ℕ
   pub information : List ℕ
 
 -- What an inner element of a constructor holds, with the element's own compatibility: bits 7 to 1 of its
 -- first compatibility octet.
-pub record ListedCodec : Type 0 where
+pub record InnerCodec : Type 0 where
   pub compatibility : ℕ
-  pub codec : Codec
+  pub codec : SingleCodec
 
-pub record Kind : Type 0 where
+pub record InnerType : Type 0 where
   pub compatibility : ℕ
   pub kind : ℕ
 
-pub data Lasting : Type 0 where
-  untimed : Lasting
+pub data InnerDuration : Type 0 where
+  untimed : InnerDuration
   -- compatibility, duration
-  lasting : ℕ → ℕ → Lasting
+  lasting : ℕ → ℕ → InnerDuration
 
 -- What an element says, by its identifier.
 pub data Value : Type 0 where
@@ -49,9 +49,9 @@ pub data Value : Type 0 where
   -- 3
   address : List ℕ → Value
   -- 4
-  codecs : List ListedCodec → Value
+  codecs : List InnerCodec → Value
   -- 5
-  single : Codec → Value
+  single : SingleCodec → Value
   -- 6: reason, diagnostics
   report : ℕ → List Diagnostic → Value
   -- 7
@@ -63,7 +63,7 @@ pub data Value : Type 0 where
   -- 10: network id, local id
   controlUnit : List ℕ → List ℕ → Value
   -- 11
-  signal : Kind → Lasting → Value
+  signal : InnerType → InnerDuration → Value
   -- 12
   capability : Bool → Value
   -- 13
@@ -75,11 +75,11 @@ pub data Value : Type 0 where
 
 -- An element is decoded as a value, or it is not recognised. The place says what is at fault: the element
 -- itself, or the first faulty inner element, by how many octets of the contents stand before it.
-pub data Reading : Type 0 where
-  decoded : Value → Reading
-  unrecognised : Place → Reading
+pub data Decoding : Type 0 where
+  decoded : Value → Decoding
+  unrecognised : Place → Decoding
 
-abbrev pub wrong : Reading
+abbrev pub wrong : Decoding
 wrong = unrecognised Itself
 
 -- bits 7 to 1 of a compatibility octet; bit 8 only says whether another follows
@@ -91,20 +91,20 @@ abbrev pub bit1 : ℕ → Bool
 bit1 b = eqb (b % 2) 1
 
 -- the sixteen bits at the front of s, the high octet first
-abbrev pub wordOf : List ℕ → ℕ
-wordOf s = octet 0 s * 256 + octet 1 s
+abbrev pub sixteenBits : List ℕ → ℕ
+sixteenBits s = octet 0 s * 256 + octet 1 s
 
 -- ---- simple elements
 -- 1, action (4.6.1.3): a single octet, whose code is an action's
-unfoldable pub actionIn : List ℕ → Reading
+unfoldable pub actionIn : List ℕ → Decoding
 actionIn s = cond (eqb (length s) 1) (cond (isAction (octet 0 s)) (decoded (action (octet 0 s))) wrong) wrong
 
 -- 2, backbone connection identifier (4.6.1.4): no more than four octets, but some
-unfoldable pub backboneIn : List ℕ → Reading
+unfoldable pub backboneIn : List ℕ → Decoding
 backboneIn s = cond (leb 1 (length s) && leb (length s) 4) (decoded (backbone s)) wrong
 
 -- 3, address of the interworking function (4.6.1.5): no more than twenty octets, but some
-unfoldable pub addressIn : List ℕ → Reading
+unfoldable pub addressIn : List ℕ → Decoding
 addressIn s = cond (leb 1 (length s) && leb (length s) 20) (decoded (address s)) wrong
 
 -- 5, single codec (4.6.1.7): an organisation up to 2, and what it says of the codec, which is not nothing. The
@@ -113,17 +113,17 @@ addressIn s = cond (leb 1 (length s) && leb (length s) 20) (decoded (address s))
 unfoldable pub ituCodec : List ℕ → Bool
 ituCodec s = cond (leb (octet 0 s) 12) (cond (leb 1 (octet 0 s) && leb (octet 0 s) 6) (eqb (length s) 1) true) false
 
-unfoldable pub rightCodec : Codec → Bool
-rightCodec c =
+unfoldable pub rightSingle : SingleCodec → Bool
+rightSingle c =
     cond (leb 1 (length (c .information)))
     (cond (leb (c .organisation) 2) (cond (eqb (c .organisation) 1) (ituCodec (c .information)) true) false)
     false
 
-abbrev pub codecOf : List ℕ → Codec
-codecOf s = record { organisation = octet 0 s; information = drop 1 s }
+abbrev pub singleCodec : List ℕ → SingleCodec
+singleCodec s = record { organisation = octet 0 s; information = drop 1 s }
 
-unfoldable pub singleIn : List ℕ → Reading
-singleIn s = cond (rightCodec (codecOf s)) (decoded (single (codecOf s))) wrong
+unfoldable pub singleIn : List ℕ → Decoding
+singleIn s = cond (rightSingle (singleCodec s)) (decoded (single (singleCodec s))) wrong
 
 -- 6, compatibility report (4.6.1.8): a reason, of whatever code, and any number of diagnostics, each an
 -- identifier and sixteen bits of index
@@ -132,33 +132,33 @@ diagnosticsIn [] = some []
 diagnosticsIn (i ∷ []) = none
 diagnosticsIn (i ∷ a ∷ []) = none
 diagnosticsIn (i ∷ a ∷ b ∷ s) =
-    Option·map (λ (r : List Diagnostic). record { identifier = i; index = wordOf (a ∷ b ∷ []) } ∷ r) (diagnosticsIn s)
+    Option·map (λ (r : List Diagnostic). record { identifier = i; index = sixteenBits (a ∷ b ∷ []) } ∷ r) (diagnosticsIn s)
 
-unfoldable pub reportIn : List ℕ → Reading
+unfoldable pub reportIn : List ℕ → Decoding
 reportIn [] = wrong
 reportIn (r ∷ s) = Option·elim (diagnosticsIn s) wrong (λ ds. decoded (report r ds))
 
 -- 7, bearer network connection characteristics (4.6.1.9): a single octet, no more than 4
-unfoldable pub characteristicsIn : List ℕ → Reading
+unfoldable pub characteristicsIn : List ℕ → Decoding
 characteristicsIn s = cond (eqb (length s) 1) (cond (leb (octet 0 s) 4) (decoded (characteristics (octet 0 s))) wrong) wrong
 
 -- 8, bearer control information (4.6.1.10): whatever there is, but something
-unfoldable pub controlIn : List ℕ → Reading
+unfoldable pub controlIn : List ℕ → Decoding
 controlIn s = cond (leb 1 (length s)) (decoded (control s)) wrong
 
 -- 9, bearer control tunnelling (4.6.1.11): a single octet, of which bit 1 alone says anything
-unfoldable pub tunnellingIn : List ℕ → Reading
+unfoldable pub tunnellingIn : List ℕ → Decoding
 tunnellingIn s = cond (eqb (length s) 1) (decoded (tunnelling (bit1 (octet 0 s)))) wrong
 
 -- 10, bearer control unit identifier (4.6.1.12): the length of a network id, 0 too, that id, and a local id,
 -- which is not empty
-unfoldable pub unitIn : List ℕ → Reading
+unfoldable pub unitIn : List ℕ → Decoding
 unitIn [] = wrong
 unitIn (n ∷ s) = cond (ltb n (length s)) (decoded (controlUnit (take n s) (drop n s))) wrong
 
 -- 12, bearer redirection capability (4.6.1.14): octets that go on to the first with bit 8 set, and end there; the
 -- capability is bit 1 of the first of them
-unfoldable pub capabilityIn : List ℕ → Reading
+unfoldable pub capabilityIn : List ℕ → Decoding
 capabilityIn s = cond (eqb (suc (unmarked s)) (length s)) (decoded (capability (bit1 (octet 0 s)))) wrong
 
 -- 13, bearer redirection indicators (4.6.1.15): no more than sixteen codes of indicators, but some
@@ -169,19 +169,19 @@ allIndicators (b ∷ s) = isIndicator b && allIndicators s
 unfoldable pub rightIndicators : List ℕ → Bool
 rightIndicators s = cond (leb 1 (length s) && leb (length s) 16) (allIndicators s) false
 
-unfoldable pub indicatorsIn : List ℕ → Reading
+unfoldable pub indicatorsIn : List ℕ → Decoding
 indicatorsIn s = cond (rightIndicators s) (decoded (indicators s)) wrong
 
 -- 14, signal type (4.6.1.16): a single octet, whose code is a signal's
 unfoldable pub rightType : List ℕ → Bool
 rightType s = eqb (length s) 1 && isSignal (octet 0 s)
 
-unfoldable pub typeIn : List ℕ → Reading
+unfoldable pub typeIn : List ℕ → Decoding
 typeIn s = cond (rightType s) (decoded (signalType (octet 0 s))) wrong
 
 -- 15, duration (4.6.1.17): sixteen bits
-unfoldable pub durationIn : List ℕ → Reading
-durationIn s = cond (eqb (length s) 2) (decoded (duration (wordOf s))) wrong
+unfoldable pub durationIn : List ℕ → Decoding
+durationIn s = cond (eqb (length s) 2) (decoded (duration (sixteenBits s))) wrong
 
 -- ---- constructors
 -- A constructor is decoded only if everything in it is. If not, it is at fault itself where it is empty, and else
@@ -191,30 +191,30 @@ durationIn s = cond (eqb (length s) 2) (decoded (duration (wordOf s))) wrong
 -- 4, codec list (4.6.1.6): single codecs one behind the other, and at least one.
 -- the codecs, or how many octets of the contents stand before the first offence
 pub data Codecs : Type 0 where
-  allCodecs : List ListedCodec → Codecs
+  allCodecs : List InnerCodec → Codecs
   offence : ℕ → Codecs
 
-unfoldable pub withCodec : ListedCodec → Codecs → Codecs
-withCodec c (allCodecs cs) = allCodecs (c ∷ cs)
-withCodec c (offence d) = offence d
+unfoldable pub withSingle : InnerCodec → Codecs → Codecs
+withSingle c (allCodecs cs) = allCodecs (c ∷ cs)
+withSingle c (offence d) = offence d
 
-unfoldable pub onCodecs : {X : Type 0} → Codecs → (List ListedCodec → X) → (ℕ → X) → X
+unfoldable pub onCodecs : {X : Type 0} → Codecs → (List InnerCodec → X) → (ℕ → X) → X
 onCodecs (allCodecs cs) go bad = go cs
 onCodecs (offence d) go bad = bad d
 
 unfoldable pub isSingle : Element → Bool
-isSingle e = eqb (e .identifier) 5 && rightCodec (codecOf (e .contents))
+isSingle e = eqb (e .identifier) 5 && rightSingle (singleCodec (e .contents))
 
-abbrev pub listedCodec : Element → ListedCodec
-listedCodec e = record { compatibility = meant (e .compatibility); codec = codecOf (e .contents) }
+abbrev pub innerCodec : Element → InnerCodec
+innerCodec e = record { compatibility = meant (e .compatibility); codec = singleCodec (e .contents) }
 
 unfoldable pub codecThen : Element → ℕ → Codecs → Codecs
-codecThen e d rest = cond (isSingle e) (withCodec (listedCodec e) rest) (offence d)
+codecThen e d rest = cond (isSingle e) (withSingle (innerCodec e) rest) (offence d)
 
 unfoldable pub codecsIn : List ℕ → Codecs
 codecsIn s = walk codecThen offence (allCodecs []) 0 s
 
-unfoldable pub codecListIn : List ℕ → Reading
+unfoldable pub codecListIn : List ℕ → Decoding
 codecListIn s =
     cond (eqb (length s) 0) wrong (onCodecs (codecsIn s) (λ cs. decoded (codecs cs)) (λ d. unrecognised (Inner d)))
 
@@ -225,33 +225,33 @@ isType e = eqb (e .identifier) 14 && rightType (e .contents)
 unfoldable pub isDuration : Element → Bool
 isDuration e = eqb (e .identifier) 15 && eqb (length (e .contents)) 2
 
-abbrev pub kindOf : Element → Kind
-kindOf e = record { compatibility = meant (e .compatibility); kind = octet 0 (e .contents) }
+abbrev pub innerType : Element → InnerType
+innerType e = record { compatibility = meant (e .compatibility); kind = octet 0 (e .contents) }
 
-abbrev pub lastingOf : Element → Lasting
-lastingOf e = lasting (meant (e .compatibility)) (wordOf (e .contents))
+abbrev pub innerDuration : Element → InnerDuration
+innerDuration e = lasting (meant (e .compatibility)) (sixteenBits (e .contents))
 
 -- behind the 14, which has d octets, and the 15 e comes t
-unfoldable pub lastBy : Kind → ℕ → Element → List ℕ → Reading
+unfoldable pub lastBy : InnerType → ℕ → Element → List ℕ → Decoding
 lastBy k d e t =
     cond (isDuration e)
-    (cond (eqb (length t) 0) (decoded (signal k (lastingOf e))) (unrecognised (Inner (d + length (whole e)))))
+    (cond (eqb (length t) 0) (decoded (signal k (innerDuration e))) (unrecognised (Inner (d + length (whole e)))))
     (unrecognised (Inner d))
 
 -- behind the 14, which has d octets, comes t
-unfoldable pub timedBy : Kind → ℕ → List ℕ → Reading
+unfoldable pub timedBy : InnerType → ℕ → List ℕ → Decoding
 timedBy k d t = onFront (front t) (lastBy k d) (unrecognised (Inner d)) (decoded (signal k untimed))
 
-unfoldable pub signalBy : Element → List ℕ → Reading
-signalBy e t = cond (isType e) (timedBy (kindOf e) (length (whole e)) t) (unrecognised (Inner 0))
+unfoldable pub signalBy : Element → List ℕ → Decoding
+signalBy e t = cond (isType e) (timedBy (innerType e) (length (whole e)) t) (unrecognised (Inner 0))
 
-unfoldable pub signalIn : List ℕ → Reading
+unfoldable pub signalIn : List ℕ → Decoding
 signalIn s = onFront (front s) signalBy (unrecognised (Inner 0)) wrong
 
 -- ---- by identifier
 -- An identifier that is not among these is unrecognised whatever the contents; so are those for national use.
-unfoldable pub reading : ℕ → List ℕ → Reading
-reading i s =
+unfoldable pub decoding : ℕ → List ℕ → Decoding
+decoding i s =
     cond (eqb i 1) (actionIn s)
     (cond (eqb i 2) (backboneIn s)
     (cond (eqb i 3) (addressIn s)

@@ -9,7 +9,7 @@ use lib.ListN.{length}
 use lib.Dec.{leb, ltb}
 use Rattle.codes.specs.Codes.{isAction, isSignal}
 use Rattle.bat.specs.Framing.{mostOctets}
-use Rattle.bat.specs.Values.{Diagnostic, Codec, ListedCodec, Lasting, untimed, lasting, Value, action, backbone, address, codecs, single, report, characteristics, control, tunnelling, controlUnit, signal, capability, indicators, signalType, duration, rightCodec, rightIndicators}
+use Rattle.bat.specs.Values.{Diagnostic, SingleCodec, InnerCodec, InnerDuration, untimed, lasting, Value, action, backbone, address, codecs, single, report, characteristics, control, tunnelling, controlUnit, signal, capability, indicators, signalType, duration, rightSingle, rightIndicators}
 
 -- ---- an element's octets
 -- the shortest form of a length
@@ -25,23 +25,23 @@ abbrev pub bitText : Bool → ℕ
 bitText b = cond b 1 0
 
 -- sixteen bits, the high octet first
-abbrev pub wordText : ℕ → List ℕ
-wordText n = n / 256 ∷ n % 256 ∷ []
+abbrev pub sixteenBitsText : ℕ → List ℕ
+sixteenBitsText n = n / 256 ∷ n % 256 ∷ []
 
-abbrev pub codecText : Codec → List ℕ
+abbrev pub codecText : SingleCodec → List ℕ
 codecText c = c .organisation ∷ c .information
 
-unfoldable pub codecsText : List ListedCodec → List ℕ
+unfoldable pub codecsText : List InnerCodec → List ℕ
 codecsText [] = []
 codecsText (c ∷ cs) = elementText 5 (c .compatibility) (codecText (c .codec)) ++ codecsText cs
 
 unfoldable pub diagnosticsText : List Diagnostic → List ℕ
 diagnosticsText [] = []
-diagnosticsText (d ∷ ds) = d .identifier ∷ (wordText (d .index) ++ diagnosticsText ds)
+diagnosticsText (d ∷ ds) = d .identifier ∷ (sixteenBitsText (d .index) ++ diagnosticsText ds)
 
-unfoldable pub lastingText : Lasting → List ℕ
-lastingText untimed = []
-lastingText (lasting c n) = elementText 15 c (wordText n)
+unfoldable pub innerDurationText : InnerDuration → List ℕ
+innerDurationText untimed = []
+innerDurationText (lasting c n) = elementText 15 c (sixteenBitsText n)
 
 -- ---- identifier, contents and ranges of a value
 unfoldable pub identifierOf : Value → ℕ
@@ -72,34 +72,34 @@ contentsText (characteristics n) = n ∷ []
 contentsText (control s) = s
 contentsText (tunnelling b) = bitText b ∷ []
 contentsText (controlUnit n l) = length n ∷ (n ++ l)
-contentsText (signal k t) = elementText 14 (k .compatibility) (k .kind ∷ []) ++ lastingText t
+contentsText (signal k t) = elementText 14 (k .compatibility) (k .kind ∷ []) ++ innerDurationText t
 contentsText (capability b) = (128 + bitText b) ∷ []
 contentsText (indicators s) = s
 contentsText (signalType n) = n ∷ []
-contentsText (duration n) = wordText n
+contentsText (duration n) = sixteenBitsText n
 
-unfoldable pub allCodecsRight : List ListedCodec → Bool
-allCodecsRight [] = true
-allCodecsRight (c ∷ cs) = rightCodec (c .codec) && allCodecsRight cs
+unfoldable pub allSinglesRight : List InnerCodec → Bool
+allSinglesRight [] = true
+allSinglesRight (c ∷ cs) = rightSingle (c .codec) && allSinglesRight cs
 
 -- Every field is in the range in which it is decoded. A field that is held in just the bits in which it is
 -- written (an octet, sixteen bits, the seven of a compatibility octet) has no other range.
-unfoldable pub inRange : Value → Bool
-inRange (action n) = isAction n
-inRange (backbone s) = leb 1 (length s) && leb (length s) 4
-inRange (address s) = leb 1 (length s) && leb (length s) 20
-inRange (codecs cs) = leb 1 (length cs) && allCodecsRight cs
-inRange (single c) = rightCodec c
-inRange (report r ds) = true
-inRange (characteristics n) = leb n 4
-inRange (control s) = leb 1 (length s)
-inRange (tunnelling b) = true
-inRange (controlUnit n l) = leb (length n) 255 && leb 1 (length l)
-inRange (signal k t) = isSignal (k .kind)
-inRange (capability b) = true
-inRange (indicators s) = rightIndicators s
-inRange (signalType n) = isSignal n
-inRange (duration n) = true
+unfoldable pub valueInRange : Value → Bool
+valueInRange (action n) = isAction n
+valueInRange (backbone s) = leb 1 (length s) && leb (length s) 4
+valueInRange (address s) = leb 1 (length s) && leb (length s) 20
+valueInRange (codecs cs) = leb 1 (length cs) && allSinglesRight cs
+valueInRange (single c) = rightSingle c
+valueInRange (report r ds) = true
+valueInRange (characteristics n) = leb n 4
+valueInRange (control s) = leb 1 (length s)
+valueInRange (tunnelling b) = true
+valueInRange (controlUnit n l) = leb (length n) 255 && leb 1 (length l)
+valueInRange (signal k t) = isSignal (k .kind)
+valueInRange (capability b) = true
+valueInRange (indicators s) = rightIndicators s
+valueInRange (signalType n) = isSignal n
+valueInRange (duration n) = true
 
 -- the octets of a value's element, with compatibility bits c
 unfoldable pub valueText : ℕ → Value → List ℕ
@@ -107,10 +107,10 @@ valueText c v = elementText (identifierOf v) c (contentsText v)
 
 -- ---- what a writer puts into its buffer (`Puts`)
 -- the octets to write: none where a field is out of range or the element is too long
-unfoldable pub octetsOf : ℕ → Value → Option (List ℕ)
-octetsOf c v = cond (inRange v && leb (length (valueText c v)) mostOctets) (some (valueText c v)) none
+unfoldable pub elementOctets : ℕ → Value → Option (List ℕ)
+elementOctets c v = cond (valueInRange v && leb (length (valueText c v)) mostOctets) (some (valueText c v)) none
 
 -- the same where there may be no value at all
-unfoldable pub octetsIn : ℕ → Option Value → Option (List ℕ)
-octetsIn c none = none
-octetsIn c (some v) = octetsOf c v
+unfoldable pub elementOctetsIn : ℕ → Option Value → Option (List ℕ)
+elementOctetsIn c none = none
+elementOctetsIn c (some v) = elementOctets c v

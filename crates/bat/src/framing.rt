@@ -2,7 +2,7 @@
 ghost use mathlib.Core.Path.{_≡_};
 ghost use mathlib.Core.Option.{some};
 ghost use Rattle.bat.specs.Framing.{octet, unmarked, lengthOf, front, elements, cut};
-ghost use Rattle.bat.specs.Meaning.{sizeIn, frontIn, elementIn, HeadLength, WholeLength, countIn, countOf};
+ghost use Rattle.bat.specs.Meaning.{sizeIn, frontIn, elementIn, HeaderLength, WholeLength, countIn, countOf};
 use crate::Counted;
 use crate::Frame;
 use crate::Framed;
@@ -97,8 +97,8 @@ pub fn first_element(s: &[u8]) -> Framed
 }
 
 // How many octets of an element stand in front of its contents.
-pub fn head_length(f: Frame) -> usize
-    ensures { λ r. ⌜ HeadLength f r ⌝ }
+pub fn header_length(f: Frame) -> usize
+    ensures { λ r. ⌜ HeaderLength f r ⌝ }
 {
     2 + f.size as usize + f.extension as usize
 }
@@ -107,14 +107,14 @@ pub fn head_length(f: Frame) -> usize
 pub fn whole_length(f: Frame) -> usize
     ensures { λ r. ⌜ WholeLength f r ⌝ }
 {
-    head_length(f) + f.length as usize
+    header_length(f) + f.length as usize
 }
 
 // The contents of an element at the front of s.
 pub fn contents(s: &[u8], f: Frame) -> &[u8]
     ensures { λ r. ⌜ now r ≡ (elementIn (now (s .entry)) f) .contents ⌝ }
 {
-    let at = head_length(f);
+    let at = header_length(f);
     let len = f.length as usize;
     octets::spans::text(s, Span { at: at, len: len })
 }

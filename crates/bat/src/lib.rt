@@ -40,19 +40,19 @@ pub enum Counted {
 }
 
 // A single codec: its organisation, and the octets behind it.
-pub struct Codec {
+pub struct SingleCodec {
     pub organisation: u8,
     pub information: Span,
 }
 
 // The signal type inside a signal, with its own compatibility octet, of which bits 7 to 1 count.
-pub struct Typed {
+pub struct InnerType {
     pub compatibility: u8,
     pub kind: u8,
 }
 
 // The duration inside a signal, with its own compatibility octet, of which bits 7 to 1 count.
-pub enum Timed {
+pub enum InnerDuration {
     Untimed,
     Lasting { compatibility: u8, duration: u16 },
 }
@@ -63,13 +63,13 @@ pub enum Value {
     Backbone(Span),
     Address(Span),
     Codecs(Span),
-    Single(Codec),
+    Single(SingleCodec),
     Report { reason: u8, diagnostics: Span },
     Characteristics(u8),
     Control(Span),
     Tunnelling(bool),
     Unit { network: Span, local: Span },
-    Signal { kind: Typed, duration: Timed },
+    Signal { kind: InnerType, duration: InnerDuration },
     Capability(bool),
     Indicators(Span),
     SignalType(u8),
@@ -84,7 +84,7 @@ pub enum Place {
 }
 
 // What an element's contents are read as.
-pub enum Reading {
+pub enum Decoding {
     Decoded(Value),
     Unrecognised(Place),
 }
@@ -111,7 +111,7 @@ pub struct Judged {
 }
 
 // What is made of an element.
-pub enum Verdict {
+pub enum Finding {
     Recognised(Value),
     Unknown(Judged),
 }

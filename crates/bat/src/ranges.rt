@@ -3,7 +3,7 @@ ghost use mathlib.Core.Path.{_≡_};
 ghost use mathlib.Core.Bool.{_&&_};
 ghost use lib.ListN.{length};
 ghost use lib.Dec.{leb};
-ghost use Rattle.bat.specs.Values.{ituCodec, rightCodec, codecOf, allIndicators, rightIndicators, rightType, wordOf};
+ghost use Rattle.bat.specs.Values.{ituCodec, rightSingle, singleCodec, allIndicators, rightIndicators, rightType, sixteenBits};
 
 // s has from `least` to `most` octets.
 pub fn between(s: &[u8], least: usize, most: usize) -> bool
@@ -37,7 +37,7 @@ fn is_itu_codec(s: &[u8]) -> bool
 
 // The organisation and the octets behind it are a single codec.
 pub fn right_codec(organisation: u8, information: &[u8]) -> bool
-    ensures { λ r. ⌜ r ≡ rightCodec (record { organisation = organisation; information = now (information .entry) }) ⌝ }
+    ensures { λ r. ⌜ r ≡ rightSingle (record { organisation = organisation; information = now (information .entry) }) ⌝ }
 {
     if information.len() < 1 {
         return false;
@@ -53,7 +53,7 @@ pub fn right_codec(organisation: u8, information: &[u8]) -> bool
 
 // s is the contents of a single codec.
 pub fn is_codec(s: &[u8]) -> bool
-    ensures { λ r. ⌜ r ≡ rightCodec (codecOf (now (s .entry))) ⌝ }
+    ensures { λ r. ⌜ r ≡ rightSingle (singleCodec (now (s .entry))) ⌝ }
 {
     if s.len() < 1 {
         return false;
@@ -98,7 +98,7 @@ pub fn is_type(s: &[u8]) -> bool
 
 // The number that the first two octets of s stand for, most significant first.
 pub fn word(s: &[u8]) -> u16
-    ensures { λ r. ⌜ r ≡ wordOf (now (s .entry)) ⌝ }
+    ensures { λ r. ⌜ r ≡ sixteenBits (now (s .entry)) ⌝ }
 {
     let a = crate::framing::octet_at(s, 0) as u16;
     let b = crate::framing::octet_at(s, 1) as u16;

@@ -14,15 +14,15 @@ use Rattle.octets.specs.declared.Span.{Span}
 use Rattle.bat.specs.declared.Frame.{Frame}
 use Rattle.bat.specs.declared.Framed.{Framed}
 use Rattle.bat.specs.declared.Framed.the-variants.{Whole, Unframed, Ended}
-use Rattle.bat.specs.declared.Typed.{Typed}
-use Rattle.bat.specs.declared.Timed.the-variants.{Untimed, Lasting}
+use Rattle.bat.specs.declared.InnerType.{InnerType as TypePlace}
+use Rattle.bat.specs.declared.InnerDuration.the-variants.{Untimed, Lasting}
 use Rattle.bat.specs.declared.Value.the-variants.{Codecs as CodecsPlace, Signal}
 use Rattle.bat.specs.declared.Place.the-variants.{Itself, Inner}
-use Rattle.bat.specs.declared.Reading.{Reading as ReadingPlace}
-use Rattle.bat.specs.declared.Reading.the-variants.{Decoded, Unrecognised}
+use Rattle.bat.specs.declared.Decoding.{Decoding as DecodingPlace}
+use Rattle.bat.specs.declared.Decoding.the-variants.{Decoded, Unrecognised}
 use Rattle.bat.specs.Framing.{octet, whole, front, onFront, walk}
-use Rattle.bat.specs.Values.{ListedCodec, codecs, signal, lasting, meant, decoded, unrecognised, Codecs, allCodecs, offence, withCodec, onCodecs, rightCodec, codecOf, isSingle, listedCodec, codecThen, codecsIn, codecListIn, kindOf, lastingOf, wordOf, rightType, isType, isDuration, lastBy, timedBy, signalBy, signalIn}
-use Rattle.bat.specs.Meaning.{wholeOf, elementIn, frontIn, WholeLength, kindIn, lastingIn, allInside, valueIn, valueBy, readingIn}
+use Rattle.bat.specs.Values.{InnerCodec, codecs, signal, lasting, meant, decoded, unrecognised, Codecs, allCodecs, offence, withSingle, onCodecs, rightSingle, singleCodec, isSingle, innerCodec, codecThen, codecsIn, codecListIn, innerType, innerDuration, sixteenBits, rightType, isType, isDuration, lastBy, timedBy, signalBy, signalIn}
+use Rattle.bat.specs.Meaning.{wholeLength, elementIn, frontIn, WholeLength, innerTypeIn, innerDurationIn, valueInside, valueIn, valueBy, decodingIn}
 use Rattle.bat.proofs.WalkLaws.{front-nil, walk-ended, walk-unframed, walk-first}
 use Rattle.bat.proofs.CountLaws.{frame-ended, frame-unframed, frame-is, frame-first, frame-length}
 use Rattle.bat_read.specs.declared.Offence.{Offence}
@@ -52,7 +52,7 @@ module _ (s : List ℕ) (f : Frame) where
   duration-no h = inner-no s f 15 _ h
 
   module _ (c : List ℕ) (is : c ≡ elementIn s f .contents) (r : Bool) where
-    pub single-by : f .identifier ≡ 5 → r ≡ rightCodec (codecOf c) → r ≡ isSingle (elementIn s f)
+    pub single-by : f .identifier ≡ 5 → r ≡ rightSingle (singleCodec c) → r ≡ isSingle (elementIn s f)
     unfolding isSingle elementIn
     single-by h e = e ∙ rw is (inner-by s f 5 _ h)
 
@@ -70,8 +70,8 @@ pub ruleset inners = (single-no, type-no, duration-no, single-by, type-by, durat
 abbrev pub codecsAt : ℕ → List ℕ → Codecs
 codecsAt d s = walk codecThen offence (allCodecs []) d s
 
-offence-with : (c : ListedCodec) (x : Codecs) → offenceOf (withCodec c x) ≡ offenceOf x
-unfolding offenceOf withCodec
+offence-with : (c : InnerCodec) (x : Codecs) → offenceOf (withSingle c x) ≡ offenceOf x
+unfolding offenceOf withSingle
 offence-with c (allCodecs cs) = refl
 offence-with c (offence d) = refl
 
@@ -108,7 +108,7 @@ module _ (s : List ℕ) (at : ℕ) (y : Offence) (inv : offenceAt at s ≡ y) wh
       unfolding offenceOf codecThen
       offence-here h =
           let n : isSingle (elementIn t f) ≡ false = sym single ∙ h in
-          let z = rw (walk-first codecThen offence (allCodecs []) at t (elementIn t f) (drop (wholeOf f) t) (frame-is t x is f e)) at here-at in
+          let z = rw (walk-first codecThen offence (allCodecs []) at t (elementIn t f) (drop (wholeLength f) t) (frame-is t x is f e)) at here-at in
           rw n at z
 
       pub offence-more : b ≡ true → (w : ℕ) → WholeLength f w → offenceAt (at + w) s ≡ y
@@ -117,14 +117,14 @@ module _ (s : List ℕ) (at : ℕ) (y : Offence) (inv : offenceAt at s ≡ y) wh
           let n : isSingle (elementIn t f) ≡ true = sym single ∙ h in
           let z = rw (walk-first codecThen offence (allCodecs []) at t (elementIn t f) (drop w t) (frame-first t x is f e w l), n) at here-at in
           let same : at + w ≡ at + length (whole (elementIn t f)) = omega (arith, frame-length t x is f e w l) in
-          rw (← drop-drop w at s, ← here, same) (sym (offence-with (listedCodec (elementIn t f)) _) ∙ z)
+          rw (← drop-drop w at s, ← here, same) (sym (offence-with (innerCodec (elementIn t f)) _) ∙ z)
 
 pub ruleset offences = (offence-end, offence-ended, offence-unframed, offence-here, offence-more)
 
 -- the whole list
 module _ (s : List ℕ) where
-  pub list-none : length s ≡ 0 → readingIn s (Unrecognised Itself) ≡ some (codecListIn s)
-  unfolding readingIn codecListIn
+  pub list-none : length s ≡ 0 → decodingIn s (Unrecognised Itself) ≡ some (codecListIn s)
+  unfolding decodingIn codecListIn
   list-none h = simp (eq-eqb (length s) 0 h)
 
   module _ (full : length s ≡ 0 → ⊥) (y : Offence) (is : y ≡ offenceOf (codecsIn s)) where
@@ -132,16 +132,16 @@ module _ (s : List ℕ) where
     unfolding codecListIn
     list-by = simp (ne-eqb (length s) 0 full)
 
-    pub list-offence : (d : ℕ) → y ≡ At d → readingIn s (Unrecognised (Inner d)) ≡ some (codecListIn s)
-    unfolding readingIn offenceOf onCodecs
+    pub list-offence : (d : ℕ) → y ≡ At d → decodingIn s (Unrecognised (Inner d)) ≡ some (codecListIn s)
+    unfolding decodingIn offenceOf onCodecs
     list-offence d e = go (codecsIn s) (sym is ∙ e) ∙ sym list-by
       where
         go : (x : Codecs) → offenceOf x ≡ At d → some (unrecognised (Inner d)) ≡ some (onCodecs x (λ cs. decoded (codecs cs)) (λ d. unrecognised (Inner d)))
         go (allCodecs cs) q = absurd (let z : _≡_ {A = ℕ} 0 1 = cc in omega arith)
         go (offence k) q = let z : k ≡ d = cc in rw z
 
-    pub list-codecs : (p : Span) → Stands s s p → y ≡ Nowhere → readingIn s (Decoded (CodecsPlace p)) ≡ some (codecListIn s)
-    unfolding readingIn valueIn allInside valueBy offenceOf onCodecs
+    pub list-codecs : (p : Span) → Stands s s p → y ≡ Nowhere → decodingIn s (Decoded (CodecsPlace p)) ≡ some (codecListIn s)
+    unfolding decodingIn valueIn valueInside valueBy offenceOf onCodecs
     list-codecs p a e = rw (a .within, a .is) (go (codecsIn s) (sym is ∙ e)) ∙ sym list-by
       where
         go : (x : Codecs) → offenceOf x ≡ Nowhere → Option·map decoded (onCodecs x (λ cs. some (codecs cs)) (λ d. none)) ≡ some (onCodecs x (λ cs. decoded (codecs cs)) (λ d. unrecognised (Inner d)))
@@ -152,64 +152,64 @@ pub ruleset lists = (list-none, list-offence, list-codecs)
 
 -- ---- 11
 -- what stands behind the 14 and the 15, as f at the front of s, for every slice m that answers are read beside
-module _ (k : Typed) (d : ℕ) (s : List ℕ) (f : Frame) (b : Bool) (is : b ≡ isDuration (elementIn s f)) (m : List ℕ) where
-  pub last-no : b ≡ false → readingIn m (Unrecognised (Inner d)) ≡ some (lastBy (kindIn k) d (elementIn s f) (drop (wholeOf f) s))
-  unfolding readingIn lastBy
+module _ (k : TypePlace) (d : ℕ) (s : List ℕ) (f : Frame) (b : Bool) (is : b ≡ isDuration (elementIn s f)) (m : List ℕ) where
+  pub last-no : b ≡ false → decodingIn m (Unrecognised (Inner d)) ≡ some (lastBy (innerTypeIn k) d (elementIn s f) (drop (wholeLength f) s))
+  unfolding decodingIn lastBy
   last-no h = let n : isDuration (elementIn s f) ≡ false = sym is ∙ h in rw n
 
   module _ (yes : b ≡ true) (here : frontIn s (Whole f) ≡ some (front s)) (w : ℕ) (l : WholeLength f w) where
-    lasting-is : (n : ℕ) → n ≡ wordOf (elementIn s f .contents) → some (decoded (signal (kindIn k) (lasting (meant (f .compatibility)) n))) ≡ some (decoded (signal (kindIn k) (lastingOf (elementIn s f))))
+    lasting-is : (n : ℕ) → n ≡ sixteenBits (elementIn s f .contents) → some (decoded (signal (innerTypeIn k) (lasting (meant (f .compatibility)) n))) ≡ some (decoded (signal (innerTypeIn k) (innerDuration (elementIn s f))))
     unfolding elementIn
     lasting-is n q = rw q
 
     duration-is : isDuration (elementIn s f) ≡ true
     duration-is = sym is ∙ yes
 
-    pub last-more : w < length s → readingIn m (Unrecognised (Inner (d + w))) ≡ some (lastBy (kindIn k) d (elementIn s f) (drop (wholeOf f) s))
-    unfolding readingIn lastBy
+    pub last-more : w < length s → decodingIn m (Unrecognised (Inner (d + w))) ≡ some (lastBy (innerTypeIn k) d (elementIn s f) (drop (wholeLength f) s))
+    unfolding decodingIn lastBy
     last-more h =
-        let n : length (drop (wholeOf f) s) ≡ 0 → ⊥ = λ e. omega (arith, length-drop (wholeOf f) s, l .is) in
-        rw (duration-is, ne-eqb (length (drop (wholeOf f) s)) 0 n, ← frame-length s (Whole f) here f refl w l)
+        let n : length (drop (wholeLength f) s) ≡ 0 → ⊥ = λ e. omega (arith, length-drop (wholeLength f) s, l .is) in
+        rw (duration-is, ne-eqb (length (drop (wholeLength f) s)) 0 n, ← frame-length s (Whole f) here f refl w l)
 
-    pub last-whole : length s ≤ w → (c : List ℕ) → c ≡ elementIn s f .contents → (n : ℕ) → n ≡ wordOf c
-        → readingIn m (Decoded (Signal k (Lasting (f .compatibility) n))) ≡ some (lastBy (kindIn k) d (elementIn s f) (drop (wholeOf f) s))
-    unfolding readingIn valueIn allInside valueBy lastingIn lastBy
+    pub last-whole : length s ≤ w → (c : List ℕ) → c ≡ elementIn s f .contents → (n : ℕ) → n ≡ sixteenBits c
+        → decodingIn m (Decoded (Signal k (Lasting (f .compatibility) n))) ≡ some (lastBy (innerTypeIn k) d (elementIn s f) (drop (wholeLength f) s))
+    unfolding decodingIn valueIn valueInside valueBy innerDurationIn lastBy
     last-whole h c e n p =
-        let z : length (drop (wholeOf f) s) ≡ 0 = omega (arith, length-drop (wholeOf f) s, l .is) in
-        let q : n ≡ wordOf (elementIn s f .contents) = p ∙ rw e in
-        rw (duration-is, eq-eqb (length (drop (wholeOf f) s)) 0 z) (lasting-is n q)
+        let z : length (drop (wholeLength f) s) ≡ 0 = omega (arith, length-drop (wholeLength f) s, l .is) in
+        let q : n ≡ sixteenBits (elementIn s f .contents) = p ∙ rw e in
+        rw (duration-is, eq-eqb (length (drop (wholeLength f) s)) 0 z) (lasting-is n q)
 
 pub ruleset lasts = (last-no, last-more, last-whole)
 
 -- behind the 14 stands s
-module _ (k : Typed) (d : ℕ) (s : List ℕ) (x : Framed) (is : frontIn s x ≡ some (front s)) (m : List ℕ) where
-  pub timed-ended : x ≡ Ended → readingIn m (Decoded (Signal k Untimed)) ≡ some (timedBy (kindIn k) d s)
-  unfolding readingIn valueIn allInside valueBy lastingIn timedBy onFront
+module _ (k : TypePlace) (d : ℕ) (s : List ℕ) (x : Framed) (is : frontIn s x ≡ some (front s)) (m : List ℕ) where
+  pub timed-ended : x ≡ Ended → decodingIn m (Decoded (Signal k Untimed)) ≡ some (timedBy (innerTypeIn k) d s)
+  unfolding decodingIn valueIn valueInside valueBy innerDurationIn timedBy onFront
   timed-ended e = rw (frame-ended s x is e)
 
-  pub timed-unframed : x ≡ Unframed → readingIn m (Unrecognised (Inner d)) ≡ some (timedBy (kindIn k) d s)
-  unfolding readingIn timedBy onFront
+  pub timed-unframed : x ≡ Unframed → decodingIn m (Unrecognised (Inner d)) ≡ some (timedBy (innerTypeIn k) d s)
+  unfolding decodingIn timedBy onFront
   timed-unframed e = rw (frame-unframed s x is e)
 
-  pub timed-last : (f : Frame) → x ≡ Whole f → (r : ReadingPlace) → ((m : List ℕ) → readingIn m r ≡ some (lastBy (kindIn k) d (elementIn s f) (drop (wholeOf f) s)))
-      → readingIn m r ≡ some (timedBy (kindIn k) d s)
+  pub timed-last : (f : Frame) → x ≡ Whole f → (r : DecodingPlace) → ((m : List ℕ) → decodingIn m r ≡ some (lastBy (innerTypeIn k) d (elementIn s f) (drop (wholeLength f) s)))
+      → decodingIn m r ≡ some (timedBy (innerTypeIn k) d s)
   unfolding timedBy onFront
   timed-last f e r p = rw (frame-is s x is f e) (p m)
 
 -- the element f at the front of s is the 14, or should be
 module _ (s : List ℕ) (f : Frame) (b : Bool) (is : b ≡ isType (elementIn s f)) where
-  pub typed-no : b ≡ false → readingIn s (Unrecognised (Inner 0)) ≡ some (signalBy (elementIn s f) (drop (wholeOf f) s))
-  unfolding readingIn signalBy
+  pub typed-no : b ≡ false → decodingIn s (Unrecognised (Inner 0)) ≡ some (signalBy (elementIn s f) (drop (wholeLength f) s))
+  unfolding decodingIn signalBy
   typed-no h = let n : isType (elementIn s f) ≡ false = sym is ∙ h in rw n
 
   kind-is : (n w : ℕ) (t : List ℕ) → n ≡ octet 0 (elementIn s f .contents)
-      → some (timedBy (kindIn (record { compatibility = f .compatibility; kind = n })) w t) ≡ some (timedBy (kindOf (elementIn s f)) w t)
+      → some (timedBy (innerTypeIn (record { compatibility = f .compatibility; kind = n })) w t) ≡ some (timedBy (innerType (elementIn s f)) w t)
   unfolding elementIn
   kind-is n w t q = rw q
 
   pub typed-yes : b ≡ true → frontIn s (Whole f) ≡ some (front s) → (w : ℕ) → WholeLength f w → (c : List ℕ) → c ≡ elementIn s f .contents → (n : ℕ) → n ≡ octet 0 c
-      → (t : List ℕ) → t ≡ drop w s → (r : ReadingPlace) → ((m : List ℕ) → readingIn m r ≡ some (timedBy (kindIn (record { compatibility = f .compatibility; kind = n })) w t))
-      → readingIn s r ≡ some (signalBy (elementIn s f) (drop (wholeOf f) s))
+      → (t : List ℕ) → t ≡ drop w s → (r : DecodingPlace) → ((m : List ℕ) → decodingIn m r ≡ some (timedBy (innerTypeIn (record { compatibility = f .compatibility; kind = n })) w t))
+      → decodingIn s r ≡ some (signalBy (elementIn s f) (drop (wholeLength f) s))
   unfolding signalBy
   typed-yes h here w l c ci n ni t ti r p =
       let y : isType (elementIn s f) ≡ true = sym is ∙ h in
@@ -218,15 +218,15 @@ module _ (s : List ℕ) (f : Frame) (b : Bool) (is : b ≡ isType (elementIn s f
 
 -- the whole signal
 module _ (s : List ℕ) (x : Framed) (is : frontIn s x ≡ some (front s)) where
-  pub signal-ended : x ≡ Ended → readingIn s (Unrecognised Itself) ≡ some (signalIn s)
-  unfolding readingIn signalIn onFront
+  pub signal-ended : x ≡ Ended → decodingIn s (Unrecognised Itself) ≡ some (signalIn s)
+  unfolding decodingIn signalIn onFront
   signal-ended e = rw (frame-ended s x is e)
 
-  pub signal-unframed : x ≡ Unframed → readingIn s (Unrecognised (Inner 0)) ≡ some (signalIn s)
-  unfolding readingIn signalIn onFront
+  pub signal-unframed : x ≡ Unframed → decodingIn s (Unrecognised (Inner 0)) ≡ some (signalIn s)
+  unfolding decodingIn signalIn onFront
   signal-unframed e = rw (frame-unframed s x is e)
 
-  pub signal-typed : (f : Frame) → x ≡ Whole f → (r : ReadingPlace) → readingIn s r ≡ some (signalBy (elementIn s f) (drop (wholeOf f) s)) → readingIn s r ≡ some (signalIn s)
+  pub signal-typed : (f : Frame) → x ≡ Whole f → (r : DecodingPlace) → decodingIn s r ≡ some (signalBy (elementIn s f) (drop (wholeLength f) s)) → decodingIn s r ≡ some (signalIn s)
   unfolding signalIn onFront
   signal-typed f e r p = rw (frame-is s x is f e) p
 

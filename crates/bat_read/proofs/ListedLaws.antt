@@ -14,12 +14,12 @@ use Rattle.bat.specs.declared.Framed.the-variants.{Whole}
 use Rattle.bat.specs.declared.Judged.{Judged}
 use Rattle.bat.specs.declared.Diagnostic.{Diagnostic as DiagnosticPlace}
 use Rattle.bat.specs.declared.Value.{Value as ValuePlace}
-use Rattle.bat.specs.declared.Verdict.{Verdict as VerdictPlace}
-use Rattle.bat.specs.declared.Verdict.the-variants.{Recognised, Unknown}
+use Rattle.bat.specs.declared.Finding.{Finding as FindingPlace}
+use Rattle.bat.specs.declared.Finding.the-variants.{Recognised, Unknown}
 use Rattle.bat.specs.Framing.{Element, whole, front, first, unframed, ended, elements}
 use Rattle.bat.specs.Values.{Diagnostic, Value}
-use Rattle.bat.specs.Judging.{Verdict, known, unknown, verdict, isListed, listedWith, listed}
-use Rattle.bat.specs.Meaning.{elementIn, WholeLength, valueIn, diagnosticIn, judgementIn, verdictIn}
+use Rattle.bat.specs.Judging.{Finding, known, unknown, finding, isListed, listedWith, listed}
+use Rattle.bat.specs.Meaning.{elementIn, WholeLength, valueIn, diagnosticIn, judgementIn, findingIn}
 use Rattle.bat.proofs.WalkLaws.{front-nil, walk-ended, walk-unframed, walk-first, by-front}
 use Rattle.bat.proofs.CountLaws.{frame-length}
 use Rattle.bat.proofs.DataLaws.{elements-ended, elements-unframed, elements-first}
@@ -33,7 +33,7 @@ use Rattle.bat_read.specs.Steps.{ownIn, ownOf}
 use Rattle.bat_read.proofs.OutcomeLaws.{seen, seen-front, seen-ended, seen-unframed}
 
 -- ---- what one element lists
-module _ (v : VerdictPlace) (n : ℕ) (ls : List Listing) where
+module _ (v : FindingPlace) (n : ℕ) (ls : List Listing) where
   pub own-known : (w : ValuePlace) → v ≡ Recognised w → ownIn ListsNone n ls ≡ ownOf v n ls
   unfolding ownIn ownOf
   own-known w e = rw e
@@ -50,7 +50,7 @@ module _ (v : VerdictPlace) (n : ℕ) (ls : List Listing) where
 pub ruleset owning = (own-known, own-lists, own-none)
 
 -- the same of the verdict that it stands for
-own-value : (o : Option Value) (w : Verdict) (n : ℕ) (ls : List Listing) → Option·map known o ≡ some w → ls ≡ listingWith w n ls
+own-value : (o : Option Value) (w : Finding) (n : ℕ) (ls : List Listing) → Option·map known o ≡ some w → ls ≡ listingWith w n ls
 unfolding listingWith
 own-value none w n ls p = absurd (let z : _≡_ {A = ℕ} 0 1 = cc in omega arith)
 own-value (some v) w n ls p = let q : known v ≡ w = cc in rw (← q)
@@ -59,25 +59,25 @@ own-judged : (j : Judged) (n : ℕ) (ls : List Listing) → cond (isListed (judg
 unfolding listingWith judgementIn
 own-judged j n ls = refl
 
-own-is : (s : List ℕ) (v : VerdictPlace) (w : Verdict) (n : ℕ) (ls : List Listing) → verdictIn s v ≡ some w → ownOf v n ls ≡ listingWith w n ls
-unfolding verdictIn ownOf
+own-is : (s : List ℕ) (v : FindingPlace) (w : Finding) (n : ℕ) (ls : List Listing) → findingIn s v ≡ some w → ownOf v n ls ≡ listingWith w n ls
+unfolding findingIn ownOf
 own-is s (Recognised x) w n ls p = own-value (valueIn s x) w n ls p
 own-is s (Unknown j) w n ls p = let q : unknown (judgementIn j) ≡ w = cc in rw (← q) (own-judged j n ls)
 
 -- ---- from one element of the data to the next
 module _ (pass : Bool) where
   listings-first : (d : ℕ) (s : List ℕ) (e : Element) (t : List ℕ) → front s ≡ first e t
-      → listings pass d s ≡ listingWith (verdict pass e) (d + length (whole e)) (listings pass (d + length (whole e)) t)
+      → listings pass d s ≡ listingWith (finding pass e) (d + length (whole e)) (listings pass (d + length (whole e)) t)
   unfolding listings
-  listings-first d s e t q = walk-first (λ e d ls. listingWith (verdict pass e) (d + length (whole e)) ls) (λ d. []) [] d s e t q
+  listings-first d s e t q = walk-first (λ e d ls. listingWith (finding pass e) (d + length (whole e)) ls) (λ d. []) [] d s e t q
 
   listings-ended : (d : ℕ) (s : List ℕ) → front s ≡ ended → listings pass d s ≡ []
   unfolding listings
-  listings-ended d s q = walk-ended (λ e d ls. listingWith (verdict pass e) (d + length (whole e)) ls) (λ d. []) [] d s q
+  listings-ended d s q = walk-ended (λ e d ls. listingWith (finding pass e) (d + length (whole e)) ls) (λ d. []) [] d s q
 
   listings-unframed : (d : ℕ) (s : List ℕ) → front s ≡ unframed → listings pass d s ≡ []
   unfolding listings
-  listings-unframed d s q = walk-unframed (λ e d ls. listingWith (verdict pass e) (d + length (whole e)) ls) (λ d. []) [] d s q
+  listings-unframed d s q = walk-unframed (λ e d ls. listingWith (finding pass e) (d + length (whole e)) ls) (λ d. []) [] d s q
 
   -- at the place `at` of the data; y are the listings from there on
   module _ (s : List ℕ) (at : ℕ) (y : List Listing) (inv : listings pass at (drop at s) ≡ y) where
@@ -99,16 +99,16 @@ module _ (pass : Bool) where
       unfolding listingsIn
       list-unframed e = sym (listings-unframed at t (seen-unframed pass t x is e)) ∙ here-is
 
-      module _ (f : Frame) (v : VerdictPlace) (e : x ≡ ElementAt f v) (w : ℕ) (l : WholeLength f w) (o : Own) (own : (n : ℕ) (ls : List Listing) → ownIn o n ls ≡ ownOf v n ls) where
+      module _ (f : Frame) (v : FindingPlace) (e : x ≡ ElementAt f v) (w : ℕ) (l : WholeLength f w) (o : Own) (own : (n : ℕ) (ls : List Listing) → ownIn o n ls ≡ ownOf v n ls) where
         list-with : ownIn o (at + w) (listings pass (at + w) (drop (at + w) s)) ≡ y
         list-with =
             let k = seen pass t x is f v e in
             let rest = listings pass (at + w) (drop w t) in
             let next : front t ≡ first (elementIn t f) (drop w t) = k .1 ∙ rw (l .is) in
             let size : at + length (whole (elementIn t f)) ≡ at + w = omega (arith, frame-length t (Whole f) (seen-front pass t x is f v e) f refl w l) in
-            let one : listings pass at t ≡ listingWith (verdict pass (elementIn t f)) (at + w) rest = rw size at (listings-first at t (elementIn t f) (drop w t) next) in
+            let one : listings pass at t ≡ listingWith (finding pass (elementIn t f)) (at + w) rest = rw size at (listings-first at t (elementIn t f) (drop w t) next) in
             rw (← drop-drop w at s, ← here)
-            (own (at + w) rest ∙ own-is (elementIn t f .contents) v (verdict pass (elementIn t f)) (at + w) rest (k .2) ∙ sym one ∙ here-is)
+            (own (at + w) rest ∙ own-is (elementIn t f .contents) v (finding pass (elementIn t f)) (at + w) rest (k .2) ∙ sym one ∙ here-is)
 
         pub list-next : (d : DiagnosticPlace) → o ≡ Lists d → listingsIn pass s (Next d (at + w)) ≡ y
         unfolding listingsIn ownIn
@@ -118,29 +118,29 @@ module _ (pass : Bool) where
         unfolding ownIn
         list-more q = rw q at list-with
 
-pub ruleset finding = (list-end, list-ended, list-unframed)
+pub ruleset list-finds = (list-end, list-ended, list-unframed)
 
 -- ---- of data that can be framed they have the diagnostics that document 01 lists
-listing-diagnostic : (w : Verdict) (n : ℕ) (ls : List Listing) → map (λ (l : Listing). l .diagnostic) (listingWith w n ls) ≡ listedWith w (map (λ (l : Listing). l .diagnostic) ls)
+listing-diagnostic : (w : Finding) (n : ℕ) (ls : List Listing) → map (λ (l : Listing). l .diagnostic) (listingWith w n ls) ≡ listedWith w (map (λ (l : Listing). l .diagnostic) ls)
 unfolding listingWith listedWith
 listing-diagnostic (known v) n ls = refl
 listing-diagnostic (unknown j) n ls = by-bool (isListed j) _ (λ b. rw b) (λ b. rw b)
 
-listed-with : (pass : Bool) (e : Element) (ds : List Diagnostic) (o : Option (List Element)) (es : List Element) → ((r : List Element) → o ≡ some r → ds ≡ listed (map (verdict pass) r))
-    → Option·map (λ (r : List Element). e ∷ r) o ≡ some es → listedWith (verdict pass e) ds ≡ listed (map (verdict pass) es)
+listed-with : (pass : Bool) (e : Element) (ds : List Diagnostic) (o : Option (List Element)) (es : List Element) → ((r : List Element) → o ≡ some r → ds ≡ listed (map (finding pass) r))
+    → Option·map (λ (r : List Element). e ∷ r) o ≡ some es → listedWith (finding pass e) ds ≡ listed (map (finding pass) es)
 unfolding listed
 listed-with pass e ds none es ih p = absurd (let z : _≡_ {A = ℕ} 0 1 = cc in omega arith)
 listed-with pass e ds (some r) es ih p = let k : e ∷ r ≡ es = cc in rw (← k, ih r refl)
 
 pub listings-listed : (pass : Bool) (s : List ℕ) (d : ℕ) (es : List Element) → elements s ≡ some es
-    → map (λ (l : Listing). l .diagnostic) (listings pass d s) ≡ listed (map (verdict pass) es)
+    → map (λ (l : Listing). l .diagnostic) (listings pass d s) ≡ listed (map (finding pass) es)
 unfolding listed
 listings-listed pass =
-    by-front (λ (s : List ℕ). (d : ℕ) (es : List Element) → elements s ≡ some es → map (λ (l : Listing). l .diagnostic) (listings pass d s) ≡ listed (map (verdict pass) es))
+    by-front (λ (s : List ℕ). (d : ℕ) (es : List Element) → elements s ≡ some es → map (λ (l : Listing). l .diagnostic) (listings pass d s) ≡ listed (map (finding pass) es))
     (λ d es p. let q : _≡_ {A = List Element} [] es = cc (elements-ended [] front-nil) in rw (listings-ended pass d [] front-nil, ← q))
     (λ s q d es p. absurd (let n = elements-unframed s q in let z : _≡_ {A = ℕ} 0 1 = cc in omega arith))
     (λ s e t q ih d es p.
     let n = d + length (whole e) in
     ap (map (λ (l : Listing). l .diagnostic)) (listings-first pass d s e t q)
-    ∙ listing-diagnostic (verdict pass e) n (listings pass n t)
+    ∙ listing-diagnostic (finding pass e) n (listings pass n t)
     ∙ listed-with pass e (map (λ (l : Listing). l .diagnostic) (listings pass n t)) (elements t) es (λ r. ih n r) (sym (elements-first s e t q) ∙ p))

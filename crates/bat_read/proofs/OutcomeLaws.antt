@@ -19,59 +19,59 @@ use Rattle.bat.specs.declared.Counted.the-variants.{Elements, Refused}
 use Rattle.bat.specs.declared.Outcome.the-variants.{PassOn, DiscardElement, DiscardData, Release}
 use Rattle.bat.specs.declared.Judged.{Judged}
 use Rattle.bat.specs.declared.Value.{Value as ValuePlace}
-use Rattle.bat.specs.declared.Verdict.{Verdict as VerdictPlace}
-use Rattle.bat.specs.declared.Verdict.the-variants.{Recognised, Unknown}
+use Rattle.bat.specs.declared.Finding.{Finding as FindingPlace}
+use Rattle.bat.specs.declared.Finding.the-variants.{Recognised, Unknown}
 use Rattle.bat.specs.declared.DataOutcome.{DataOutcome}
 use Rattle.bat.specs.declared.DataOutcome.the-variants.{Neither, DiscardAll, ReleaseAll}
 use Rattle.bat.specs.declared.DataAnswer.the-variants.{Refused as RefusedData, Taken}
 use Rattle.bat.specs.Framing.{Element, Front, front, first, unframed, ended, onFront, elements, Cut, refused, taken, cut}
 use Rattle.bat.specs.Values.{Value}
-use Rattle.bat.specs.Judging.{Verdict, known, unknown, verdict, says, someSays, dataOutcome, judgedBy, judgedData}
-use Rattle.bat.specs.Meaning.{wholeOf, elementIn, frontIn, WholeLength, valueIn, outcomeNumber, judgementIn, verdictIn, dataNumber, toldBy, toldOf, countOf}
+use Rattle.bat.specs.Judging.{Finding, known, unknown, finding, says, someSays, dataOutcome, judgedBy, judgedData}
+use Rattle.bat.specs.Meaning.{wholeLength, elementIn, frontIn, WholeLength, valueIn, outcomeNumber, judgementIn, findingIn, dataNumber, toldBy, toldOf, countOf}
 use Rattle.bat.proofs.WalkLaws.{front-nil, fold-ended, fold-unframed, fold-first, by-front}
 use Rattle.bat.proofs.DataLaws.{elements-ended, elements-unframed, elements-first, taken-is}
 use Rattle.bat.proofs.CountLaws.{place-fits, place-falls}
 use Rattle.bat_read.specs.declared.Examined.{Examined}
 use Rattle.bat_read.specs.declared.Examined.the-variants.{Element as ElementAt, Unframed as NoFrame, Ended as NoMore}
 use Rattle.bat_read.specs.Examining.{element, noFrame, noMore, examine, examinedIn}
-use Rattle.bat_read.specs.Steps.{asked, askedIn, askedBy, gravest}
+use Rattle.bat_read.specs.Steps.{dataAsked, dataAskedIn, dataAskedBy, gravest}
 
 -- ---- what one element asks
-pub asks-known : (v : VerdictPlace) (w : ValuePlace) → v ≡ Recognised w → dataNumber Neither ≡ askedIn v
-unfolding dataNumber askedIn
+pub asks-known : (v : FindingPlace) (w : ValuePlace) → v ≡ Recognised w → dataNumber Neither ≡ dataAskedIn v
+unfolding dataNumber dataAskedIn
 asks-known v w e = rw e
 
-module _ (v : VerdictPlace) (j : Judged) (e : v ≡ Unknown j) where
-  pub asks-pass : j .outcome ≡ PassOn → dataNumber Neither ≡ askedIn v
-  unfolding dataNumber askedIn outcomeNumber
+module _ (v : FindingPlace) (j : Judged) (e : v ≡ Unknown j) where
+  pub asks-pass : j .outcome ≡ PassOn → dataNumber Neither ≡ dataAskedIn v
+  unfolding dataNumber dataAskedIn outcomeNumber
   asks-pass o = rw (e, o)
 
-  pub asks-element : j .outcome ≡ DiscardElement → dataNumber Neither ≡ askedIn v
-  unfolding dataNumber askedIn outcomeNumber
+  pub asks-element : j .outcome ≡ DiscardElement → dataNumber Neither ≡ dataAskedIn v
+  unfolding dataNumber dataAskedIn outcomeNumber
   asks-element o = rw (e, o)
 
-  pub asks-data : j .outcome ≡ DiscardData → dataNumber DiscardAll ≡ askedIn v
-  unfolding dataNumber askedIn outcomeNumber
+  pub asks-data : j .outcome ≡ DiscardData → dataNumber DiscardAll ≡ dataAskedIn v
+  unfolding dataNumber dataAskedIn outcomeNumber
   asks-data o = rw (e, o)
 
-  pub asks-release : j .outcome ≡ Release → dataNumber ReleaseAll ≡ askedIn v
-  unfolding dataNumber askedIn outcomeNumber
+  pub asks-release : j .outcome ≡ Release → dataNumber ReleaseAll ≡ dataAskedIn v
+  unfolding dataNumber dataAskedIn outcomeNumber
   asks-release o = rw (e, o)
 
 pub ruleset asking = (asks-known, asks-pass, asks-element, asks-data, asks-release)
 
 -- the same of the verdict that it stands for
-known-asks : (o : Option Value) (w : Verdict) → Option·map known o ≡ some w → 0 ≡ askedBy w
-unfolding askedBy
+known-asks : (o : Option Value) (w : Finding) → Option·map known o ≡ some w → 0 ≡ dataAskedBy w
+unfolding dataAskedBy
 known-asks none w p = absurd (let z : _≡_ {A = ℕ} 0 1 = cc in omega arith)
 known-asks (some v) w p = let q : known v ≡ w = cc in rw (← q)
 
-unknown-asks : (j : Judged) → asked (outcomeNumber (j .outcome)) ≡ askedBy (unknown (judgementIn j))
-unfolding askedBy judgementIn
+unknown-asks : (j : Judged) → dataAsked (outcomeNumber (j .outcome)) ≡ dataAskedBy (unknown (judgementIn j))
+unfolding dataAskedBy judgementIn
 unknown-asks j = refl
 
-asked-is : (s : List ℕ) (v : VerdictPlace) (w : Verdict) → verdictIn s v ≡ some w → askedIn v ≡ askedBy w
-unfolding verdictIn askedIn
+asked-is : (s : List ℕ) (v : FindingPlace) (w : Finding) → findingIn s v ≡ some w → dataAskedIn v ≡ dataAskedBy w
+unfolding findingIn dataAskedIn
 asked-is s (Recognised x) w p = known-asks (valueIn s x) w p
 asked-is s (Unknown j) w p = let q : unknown (judgementIn j) ≡ w = cc in rw (← q) (unknown-asks j)
 
@@ -118,12 +118,12 @@ gravest-says false false true d = refl
 gravest-says false false false true = refl
 gravest-says false false false false = refl
 
-asked-says : (w : Verdict) → askedBy w ≡ cond (says 3 w) 3 (cond (says 2 w) 2 0)
-unfolding askedBy says
+asked-says : (w : Finding) → dataAskedBy w ≡ cond (says 3 w) 3 (cond (says 2 w) 2 0)
+unfolding dataAskedBy says
 asked-says (known v) = refl
 asked-says (unknown j) = refl
 
-outcome-cons : (w : Verdict) (ws : List Verdict) → dataOutcome (w ∷ ws) ≡ max (askedBy w) (dataOutcome ws)
+outcome-cons : (w : Finding) (ws : List Finding) → dataOutcome (w ∷ ws) ≡ max (dataAskedBy w) (dataOutcome ws)
 unfolding dataOutcome someSays
 outcome-cons w ws = gravest-says (says 3 w) (says 2 w) (someSays 3 ws) (someSays 2 ws) ∙ rw (asked-says w)
 
@@ -132,65 +132,65 @@ unfolding dataOutcome someSays
 nil-outcome = refl
 
 module _ (pass : Bool) where
-  gravest-first : (s : List ℕ) (e : Element) (t : List ℕ) → front s ≡ first e t → gravest pass s ≡ max (askedBy (verdict pass e)) (gravest pass t)
+  gravest-first : (s : List ℕ) (e : Element) (t : List ℕ) → front s ≡ first e t → gravest pass s ≡ max (dataAskedBy (finding pass e)) (gravest pass t)
   unfolding gravest
-  gravest-first s e t q = fold-first (λ e n. max (askedBy (verdict pass e)) n) 0 0 s e t q
+  gravest-first s e t q = fold-first (λ e n. max (dataAskedBy (finding pass e)) n) 0 0 s e t q
 
   gravest-ended : (s : List ℕ) → front s ≡ ended → gravest pass s ≡ 0
   unfolding gravest
-  gravest-ended s q = fold-ended (λ e n. max (askedBy (verdict pass e)) n) 0 0 s q
+  gravest-ended s q = fold-ended (λ e n. max (dataAskedBy (finding pass e)) n) 0 0 s q
 
   gravest-unframed : (s : List ℕ) → front s ≡ unframed → gravest pass s ≡ 0
   unfolding gravest
-  gravest-unframed s q = fold-unframed (λ e n. max (askedBy (verdict pass e)) n) 0 0 s q
+  gravest-unframed s q = fold-unframed (λ e n. max (dataAskedBy (finding pass e)) n) 0 0 s q
 
   -- of data that can be framed it is the outcome
-  gravest-outcome : (s : List ℕ) (es : List Element) → elements s ≡ some es → gravest pass s ≡ dataOutcome (map (verdict pass) es)
+  gravest-outcome : (s : List ℕ) (es : List Element) → elements s ≡ some es → gravest pass s ≡ dataOutcome (map (finding pass) es)
   gravest-outcome =
-      by-front (λ (s : List ℕ). (es : List Element) → elements s ≡ some es → gravest pass s ≡ dataOutcome (map (verdict pass) es))
+      by-front (λ (s : List ℕ). (es : List Element) → elements s ≡ some es → gravest pass s ≡ dataOutcome (map (finding pass) es))
       (λ es p. let q : _≡_ {A = List Element} [] es = cc (elements-ended [] front-nil) in gravest-ended [] front-nil ∙ rw (← q) nil-outcome)
       (λ s q es p. absurd (let n = elements-unframed s q in let z : _≡_ {A = ℕ} 0 1 = cc in omega arith))
       (λ s e t q ih es p. gravest-first s e t q ∙ outcome-with e t (elements t) es ih refl (sym (elements-first s e t q) ∙ p))
     where
-      outcome-with : (e : Element) (t : List ℕ) (o : Option (List Element)) (es : List Element) → ((r : List Element) → elements t ≡ some r → gravest pass t ≡ dataOutcome (map (verdict pass) r)) → elements t ≡ o
-          → Option·map (λ (r : List Element). e ∷ r) o ≡ some es → max (askedBy (verdict pass e)) (gravest pass t) ≡ dataOutcome (map (verdict pass) es)
+      outcome-with : (e : Element) (t : List ℕ) (o : Option (List Element)) (es : List Element) → ((r : List Element) → elements t ≡ some r → gravest pass t ≡ dataOutcome (map (finding pass) r)) → elements t ≡ o
+          → Option·map (λ (r : List Element). e ∷ r) o ≡ some es → max (dataAskedBy (finding pass e)) (gravest pass t) ≡ dataOutcome (map (finding pass) es)
       outcome-with e t none es ih q p = absurd (let z : _≡_ {A = ℕ} 0 1 = cc in omega arith)
       outcome-with e t (some r) es ih q p =
           let k : e ∷ r ≡ es = cc in
-          rw (← k, ih r q) (sym (outcome-cons (verdict pass e) (map (verdict pass) r)))
+          rw (← k, ih r q) (sym (outcome-cons (finding pass e) (map (finding pass) r)))
 
 -- ---- what the front was examined as
 module _ (pass : Bool) where
-  on-element : (g : Front) (e : Element) (w : Verdict) (u : List ℕ) → element e w u ≡ onFront g (λ e t. element e (verdict pass e) t) noFrame noMore → (g ≡ first e u) × (w ≡ verdict pass e)
+  on-element : (g : Front) (e : Element) (w : Finding) (u : List ℕ) → element e w u ≡ onFront g (λ e t. element e (finding pass e) t) noFrame noMore → (g ≡ first e u) × (w ≡ finding pass e)
   unfolding onFront
   on-element (first d t) e w u p =
       let ed : e ≡ d = cc in
       let ut : u ≡ t = cc in
-      let wv : w ≡ verdict pass d = cc in
+      let wv : w ≡ finding pass d = cc in
       rw (ed, ut) (refl, wv)
   on-element unframed e w u p = absurd (let z : _≡_ {A = ℕ} 0 1 = cc in omega arith)
   on-element ended e w u p = absurd (let z : _≡_ {A = ℕ} 0 1 = cc in omega arith)
 
-  on-unframed : (g : Front) → noFrame ≡ onFront g (λ e t. element e (verdict pass e) t) noFrame noMore → g ≡ unframed
+  on-unframed : (g : Front) → noFrame ≡ onFront g (λ e t. element e (finding pass e) t) noFrame noMore → g ≡ unframed
   unfolding onFront
   on-unframed (first d t) p = absurd (let z : _≡_ {A = ℕ} 0 1 = cc in omega arith)
   on-unframed unframed p = refl
   on-unframed ended p = absurd (let z : _≡_ {A = ℕ} 0 1 = cc in omega arith)
 
-  on-ended : (g : Front) → noMore ≡ onFront g (λ e t. element e (verdict pass e) t) noFrame noMore → g ≡ ended
+  on-ended : (g : Front) → noMore ≡ onFront g (λ e t. element e (finding pass e) t) noFrame noMore → g ≡ ended
   unfolding onFront
   on-ended (first d t) p = absurd (let z : _≡_ {A = ℕ} 0 1 = cc in omega arith)
   on-ended unframed p = absurd (let z : _≡_ {A = ℕ} 0 1 = cc in omega arith)
   on-ended ended p = refl
 
-  seen-by : (t : List ℕ) (f : Frame) (v : VerdictPlace) (o : Option Verdict) → verdictIn (elementIn t f .contents) v ≡ o
-      → Option·map (λ (w : Verdict). element (elementIn t f) w (drop (wholeOf f) t)) o ≡ some (examine pass t)
-      → (front t ≡ first (elementIn t f) (drop (wholeOf f) t)) × (verdictIn (elementIn t f .contents) v ≡ some (verdict pass (elementIn t f)))
+  seen-by : (t : List ℕ) (f : Frame) (v : FindingPlace) (o : Option Finding) → findingIn (elementIn t f .contents) v ≡ o
+      → Option·map (λ (w : Finding). element (elementIn t f) w (drop (wholeLength f) t)) o ≡ some (examine pass t)
+      → (front t ≡ first (elementIn t f) (drop (wholeLength f) t)) × (findingIn (elementIn t f .contents) v ≡ some (finding pass (elementIn t f)))
   unfolding examine
   seen-by t f v none q p = absurd (let z : _≡_ {A = ℕ} 0 1 = cc in omega arith)
   seen-by t f v (some w) q p =
-      let k : element (elementIn t f) w (drop (wholeOf f) t) ≡ onFront (front t) (λ e t. element e (verdict pass e) t) noFrame noMore = cc in
-      let (g, h) = on-element (front t) (elementIn t f) w (drop (wholeOf f) t) k in
+      let k : element (elementIn t f) w (drop (wholeLength f) t) ≡ onFront (front t) (λ e t. element e (finding pass e) t) noFrame noMore = cc in
+      let (g, h) = on-element (front t) (elementIn t f) w (drop (wholeLength f) t) k in
       (g, q ∙ rw h)
 
   module _ (t : List ℕ) (x : Examined) (is : examinedIn t x ≡ some (examine pass t)) where
@@ -202,21 +202,21 @@ module _ (pass : Bool) where
     unfolding examinedIn examine
     seen-unframed e = let p : some noFrame ≡ some (examine pass t) = rw e at is in on-unframed (front t) (cc)
 
-    module _ (f : Frame) (v : VerdictPlace) (e : x ≡ ElementAt f v) where
-      pub seen : (wholeOf f ≤ length t) × (front t ≡ first (elementIn t f) (drop (wholeOf f) t)) × (verdictIn (elementIn t f .contents) v ≡ some (verdict pass (elementIn t f)))
+    module _ (f : Frame) (v : FindingPlace) (e : x ≡ ElementAt f v) where
+      pub seen : (wholeLength f ≤ length t) × (front t ≡ first (elementIn t f) (drop (wholeLength f) t)) × (findingIn (elementIn t f .contents) v ≡ some (finding pass (elementIn t f)))
       unfolding examinedIn
       seen =
           let p = rw e at is in
-          by-le (wholeOf f) (length t) _
-          (λ h. let (a, b) = seen-by t f v (verdictIn (elementIn t f .contents) v) refl (rw (le-leb (wholeOf f) (length t) h) at p) in (h, a, b))
-          (λ h. let q : none ≡ some (examine pass t) = rw (lt-leb (wholeOf f) (length t) h) at p in absurd (let z : _≡_ {A = ℕ} 0 1 = cc in omega arith))
+          by-le (wholeLength f) (length t) _
+          (λ h. let (a, b) = seen-by t f v (findingIn (elementIn t f .contents) v) refl (rw (le-leb (wholeLength f) (length t) h) at p) in (h, a, b))
+          (λ h. let q : none ≡ some (examine pass t) = rw (lt-leb (wholeLength f) (length t) h) at p in absurd (let z : _≡_ {A = ℕ} 0 1 = cc in omega arith))
 
       pub seen-front : frontIn t (Whole f) ≡ some (front t)
       unfolding frontIn
-      seen-front = rw (le-leb (wholeOf f) (length t) (seen .0), seen .1)
+      seen-front = rw (le-leb (wholeLength f) (length t) (seen .0), seen .1)
 
   -- ---- from one element of the data to the next
-  module _ (s : List ℕ) (at : ℕ) (t : List ℕ) (here : t ≡ drop at s) (x : Examined) (is : examinedIn t x ≡ some (examine pass t)) (f : Frame) (v : VerdictPlace) (e : x ≡ ElementAt f v) (w : ℕ) (l : WholeLength f w) where
+  module _ (s : List ℕ) (at : ℕ) (t : List ℕ) (here : t ≡ drop at s) (x : Examined) (is : examinedIn t x ≡ some (examine pass t)) (f : Frame) (v : FindingPlace) (e : x ≡ ElementAt f v) (w : ℕ) (l : WholeLength f w) where
     pub seen-fits : at < length s → length s < 2 ^ 64 → Fits w64 (at + w)
     seen-fits h k = place-fits s at t here (Whole f) (seen-front t x is f v e) f refl w l h k
 
@@ -240,12 +240,12 @@ module _ (pass : Bool) where
       pub outcome-unframed : x ≡ NoFrame → n ≡ y
       outcome-unframed e = omega (arith, here-is, gravest-unframed pass t (seen-unframed t x is e))
 
-      module _ (f : Frame) (v : VerdictPlace) (e : x ≡ ElementAt f v) (w : ℕ) (l : WholeLength f w) where
-        pub outcome-more : (a m : ℕ) → a ≡ askedIn v → m ≡ max n a → max m (gravest pass (drop (at + w) s)) ≡ y
+      module _ (f : Frame) (v : FindingPlace) (e : x ≡ ElementAt f v) (w : ℕ) (l : WholeLength f w) where
+        pub outcome-more : (a m : ℕ) → a ≡ dataAskedIn v → m ≡ max n a → max m (gravest pass (drop (at + w) s)) ≡ y
         outcome-more a m k q =
             let next : front t ≡ first (elementIn t f) (drop w t) = seen t x is f v e .1 ∙ rw (l .is) in
             let g = gravest-first pass t (elementIn t f) (drop w t) next in
-            let b : a ≡ askedBy (verdict pass (elementIn t f)) = k ∙ asked-is (elementIn t f .contents) v (verdict pass (elementIn t f)) (seen t x is f v e .2) in
+            let b : a ≡ dataAskedBy (finding pass (elementIn t f)) = k ∙ asked-is (elementIn t f .contents) v (finding pass (elementIn t f)) (seen t x is f v e .2) in
             rw (← drop-drop w at s, ← here) (omega (arith, here-is, g, b, q))
 
 pub ruleset outcomes = (outcome-end, outcome-ended, outcome-unframed, outcome-more)
@@ -273,7 +273,7 @@ module _ (s : List ℕ) (entries : ℕ) (pass : Bool) (y : Counted) (is : y ≡ 
       go (taken es) q =
           let k : y ≡ Elements (length es) = rw q at is in
           let z : n ≡ length es = cc in
-          let a : dataNumber o ≡ dataOutcome (map (verdict pass) es) = g ∙ gravest-outcome pass s es (taken-is entries s es q .are) in
-          rw (z, a, ← length-map es (verdict pass)) (sym (told-by (taken es) q))
+          let a : dataNumber o ≡ dataOutcome (map (finding pass) es) = g ∙ gravest-outcome pass s es (taken-is entries s es q .are) in
+          rw (z, a, ← length-map es (finding pass)) (sym (told-by (taken es) q))
 
 pub ruleset telling = (told-refused, told-taken)

@@ -13,10 +13,10 @@ use Rattle.octets.proofs.Laws.{tail-is}
 use Rattle.octets.proofs.SpanLaws.{text-all}
 use Rattle.bat.specs.declared.Value.the-variants.{Report, Unit, Capability}
 use Rattle.bat.specs.declared.Place.the-variants.{Itself}
-use Rattle.bat.specs.declared.Reading.the-variants.{Decoded, Unrecognised}
+use Rattle.bat.specs.declared.Decoding.the-variants.{Decoded, Unrecognised}
 use Rattle.bat.specs.Framing.{octet, unmarked}
 use Rattle.bat.specs.Values.{Diagnostic, report, decoded, wrong, bit1, diagnosticsIn, reportIn, unitIn, capabilityIn}
-use Rattle.bat.specs.Meaning.{allInside, valueIn, valueBy, readingIn}
+use Rattle.bat.specs.Meaning.{valueInside, valueIn, valueBy, decodingIn}
 use Rattle.bat_read.specs.Steps.{Stands}
 
 -- ---- spans
@@ -52,19 +52,19 @@ diagnostics-whole (a ∷ b ∷ []) h e = omega arith
 diagnostics-whole (a ∷ b ∷ c ∷ s) h e = diagnostics-whole s (omega arith) (map-none (λ (r : List Diagnostic). record { identifier = a; index = b * 256 + c } ∷ r) (diagnosticsIn s) e)
 
 -- ---- 6
-pub report-none : (s : List ℕ) → length s < 1 → readingIn s (Unrecognised Itself) ≡ some (reportIn s)
-unfolding readingIn reportIn
+pub report-none : (s : List ℕ) → length s < 1 → decodingIn s (Unrecognised Itself) ≡ some (reportIn s)
+unfolding decodingIn reportIn
 report-none [] h = refl
 report-none (r ∷ s) h = absurd (omega arith)
 
-pub report-odd : (s : List ℕ) → 1 ≤ length s → ((length s - 1) % 3 ≡ 0 → ⊥) → readingIn s (Unrecognised Itself) ≡ some (reportIn s)
-unfolding readingIn reportIn Option·elim
+pub report-odd : (s : List ℕ) → 1 ≤ length s → ((length s - 1) % 3 ≡ 0 → ⊥) → decodingIn s (Unrecognised Itself) ≡ some (reportIn s)
+unfolding decodingIn reportIn Option·elim
 report-odd [] h k = absurd (omega arith)
 report-odd (r ∷ s) h k = rw (diagnostics-odd s (λ e. k (omega arith)))
 
 pub report-whole : (s : List ℕ) (p : Span) → 1 ≤ length s → (length s - 1) % 3 ≡ 0 → Stands s (drop 1 s) p
-    → readingIn s (Decoded (Report (getD s 0 0) p)) ≡ some (reportIn s)
-unfolding readingIn valueIn allInside valueBy reportIn Option·elim
+    → decodingIn s (Decoded (Report (getD s 0 0) p)) ≡ some (reportIn s)
+unfolding decodingIn valueIn valueInside valueBy reportIn Option·elim
 report-whole [] p h k e = absurd (omega arith)
 report-whole (r ∷ s) p h k e = rw (e .within, e .is) (go (diagnosticsIn s) refl)
   where
@@ -73,19 +73,19 @@ report-whole (r ∷ s) p h k e = rw (e .within, e .is) (go (diagnosticsIn s) ref
     go (some ds) q = refl
 
 -- ---- 10
-pub unit-none : (s : List ℕ) → length s < 1 → readingIn s (Unrecognised Itself) ≡ some (unitIn s)
-unfolding readingIn unitIn
+pub unit-none : (s : List ℕ) → length s < 1 → decodingIn s (Unrecognised Itself) ≡ some (unitIn s)
+unfolding decodingIn unitIn
 unit-none [] h = refl
 unit-none (n ∷ s) h = absurd (omega arith)
 
-pub unit-short : (s : List ℕ) (n : ℕ) → n ≡ octet 0 s → 1 ≤ length s → length s - 1 ≤ n → readingIn s (Unrecognised Itself) ≡ some (unitIn s)
-unfolding readingIn unitIn
+pub unit-short : (s : List ℕ) (n : ℕ) → n ≡ octet 0 s → 1 ≤ length s → length s - 1 ≤ n → decodingIn s (Unrecognised Itself) ≡ some (unitIn s)
+unfolding decodingIn unitIn
 unit-short [] n e h k = absurd (omega arith)
 unit-short (b ∷ s) n e h k = simp (le-ltb b (length s) (omega arith))
 
 pub unit-whole : (s : List ℕ) (n : ℕ) (p : Span) → n ≡ octet 0 s → 1 ≤ length s → n < length s - 1 → Stands s (drop (1 + n) s) p
-    → readingIn s (Decoded (Unit (record { at = 1; len = n }) p)) ≡ some (unitIn s)
-unfolding readingIn valueIn allInside valueBy unitIn textOf
+    → decodingIn s (Decoded (Unit (record { at = 1; len = n }) p)) ≡ some (unitIn s)
+unfolding decodingIn valueIn valueInside valueBy unitIn textOf
 unit-whole [] n p i h k e = absurd (omega arith)
 unit-whole (b ∷ s) n p i h k e =
     let l : 1 + n ≡ suc n = omega arith in
@@ -93,17 +93,17 @@ unit-whole (b ∷ s) n p i h k e =
 
 -- ---- 12
 module _ (s : List ℕ) where
-  pub capability-none : length s < 1 → readingIn s (Unrecognised Itself) ≡ some (capabilityIn s)
-  unfolding readingIn capabilityIn
+  pub capability-none : length s < 1 → decodingIn s (Unrecognised Itself) ≡ some (capabilityIn s)
+  unfolding decodingIn capabilityIn
   capability-none h = simp (ne-eqb (suc (unmarked s)) (length s) (λ e. omega arith))
 
   module _ (x : ℕ) (is : x ≡ unmarked s) (one : 1 ≤ length s) where
-    pub capability-no : (x ≡ length s - 1 → ⊥) → readingIn s (Unrecognised Itself) ≡ some (capabilityIn s)
-    unfolding readingIn capabilityIn
+    pub capability-no : (x ≡ length s - 1 → ⊥) → decodingIn s (Unrecognised Itself) ≡ some (capabilityIn s)
+    unfolding decodingIn capabilityIn
     capability-no h = simp (ne-eqb (suc (unmarked s)) (length s) (λ e. h (omega arith)))
 
-    pub capability-yes : x ≡ length s - 1 → readingIn s (Decoded (Capability (bit1 (getD s 0 0)))) ≡ some (capabilityIn s)
-    unfolding readingIn valueIn allInside valueBy capabilityIn
+    pub capability-yes : x ≡ length s - 1 → decodingIn s (Decoded (Capability (bit1 (getD s 0 0)))) ≡ some (capabilityIn s)
+    unfolding decodingIn valueIn valueInside valueBy capabilityIn
     capability-yes h = simp (eq-eqb (suc (unmarked s)) (length s) (omega arith))
 
 pub ruleset behinds = (behind-none, behind-some)

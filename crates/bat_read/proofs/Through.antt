@@ -8,13 +8,13 @@ use mathlib.Core.Bool.{Bool}
 use mathlib.Core.Option.{Option, none, some, Option·map}
 use native.Mathlib.Omega.{arith}
 use Rattle.bat.specs.Framing.{Element, Front, front, first, unframed, ended, onFront, elements}
-use Rattle.bat.specs.Judging.{verdict}
+use Rattle.bat.specs.Judging.{finding}
 use Rattle.bat.proofs.DataLaws.{elements-unframed, elements-first, elements-next}
 use Rattle.bat_read.specs.Examining.{element, noMore, examine}
 
 module _ (pass : Bool) (s : List ℕ) where
   pub examine-next : (e : Element) (es : List Element) → elements s ≡ some (e ∷ es)
-      → (t : List ℕ) × (examine pass s ≡ element e (verdict pass e) t) × (elements t ≡ some es)
+      → (t : List ℕ) × (examine pass s ≡ element e (finding pass e) t) × (elements t ≡ some es)
   unfolding examine onFront
   examine-next e es p = let (t, q, rest) = elements-next s e es p in (t, rw q, rest)
 

@@ -16,15 +16,15 @@ use Rattle.bat.specs.declared.Framed.the-variants.{Whole, Unframed, Ended}
 use Rattle.bat.specs.declared.Place.{Place}
 use Rattle.bat.specs.declared.Place.the-variants.{Itself, Inner}
 use Rattle.bat.specs.declared.Value.{Value as ValuePlace}
-use Rattle.bat.specs.declared.Reading.{Reading as ReadingPlace}
-use Rattle.bat.specs.declared.Reading.the-variants.{Decoded, Unrecognised}
+use Rattle.bat.specs.declared.Decoding.{Decoding as DecodingPlace}
+use Rattle.bat.specs.declared.Decoding.the-variants.{Decoded, Unrecognised}
 use Rattle.bat.specs.declared.Judged.{Judged}
-use Rattle.bat.specs.declared.Verdict.{Verdict as VerdictPlace}
-use Rattle.bat.specs.declared.Verdict.the-variants.{Recognised, Unknown}
-use Rattle.bat.specs.Framing.{head, front, first, onFront}
-use Rattle.bat.specs.Values.{Value, Reading, decoded, unrecognised, reading}
-use Rattle.bat.specs.Judging.{indexBy, judgement, known, unknown, verdictBy, verdict}
-use Rattle.bat.specs.Meaning.{headOf, wholeOf, elementIn, frontIn, HeadLength, valueIn, readingIn, judgementIn, verdictIn}
+use Rattle.bat.specs.declared.Finding.{Finding as FindingPlace}
+use Rattle.bat.specs.declared.Finding.the-variants.{Recognised, Unknown}
+use Rattle.bat.specs.Framing.{header, front, first, onFront}
+use Rattle.bat.specs.Values.{Value, Decoding, decoded, unrecognised, decoding}
+use Rattle.bat.specs.Judging.{indexBy, judgement, known, unknown, findingBy, finding}
+use Rattle.bat.specs.Meaning.{headerLength, wholeLength, elementIn, frontIn, HeaderLength, valueIn, decodingIn, judgementIn, findingIn}
 use Rattle.bat.proofs.WalkLaws.{front-size, size-small}
 use Rattle.bat.proofs.CountLaws.{frame-is, frame-fits, frame-ended, frame-unframed}
 use Rattle.bat_read.specs.declared.Examined.the-variants.{Element as ElementAt, Unframed as NoFrame, Ended as NoMore}
@@ -33,7 +33,7 @@ use Rattle.bat_read.specs.Steps.{indexIn}
 use Rattle.bat_read.proofs.InnerLaws.{innerOf, inner-inside}
 
 -- ---- the index
-module _ (x : ReadingPlace) (n : ℕ) where
+module _ (x : DecodingPlace) (n : ℕ) where
   pub index-decoded : (v : ValuePlace) → x ≡ Decoded v → 0 ≡ indexIn n x
   unfolding indexIn
   index-decoded v e = rw e
@@ -58,65 +58,65 @@ unfolding elementIn
 same-judgement s f pass n = refl
 
 -- the answer x to the contents c of the element f at the front of s
-module _ (s : List ℕ) (f : Frame) (here : frontIn s (Whole f) ≡ some (front s)) (c : List ℕ) (is : c ≡ elementIn s f .contents) (x : ReadingPlace) (read : readingIn c x ≡ some (reading (f .identifier) c)) where
-  inside : wholeOf f ≤ length s
+module _ (s : List ℕ) (f : Frame) (here : frontIn s (Whole f) ≡ some (front s)) (c : List ℕ) (is : c ≡ elementIn s f .contents) (x : DecodingPlace) (read : decodingIn c x ≡ some (decoding (f .identifier) c)) where
+  inside : wholeLength f ≤ length s
   inside = frame-fits s (Whole f) here f refl
 
-  fronts : front s ≡ first (elementIn s f) (drop (wholeOf f) s)
+  fronts : front s ≡ first (elementIn s f) (drop (wholeLength f) s)
   fronts = frame-is s (Whole f) here f refl
 
   small : length c ≤ 2046
   small =
-      let (most, two, one, same) = size-small _ _ _ _ (front-size s (elementIn s f) (drop (wholeOf f) s) fronts) in
+      let (most, two, one, same) = size-small _ _ _ _ (front-size s (elementIn s f) (drop (wholeLength f) s) fronts) in
       omega (arith, ap (λ (l : List ℕ). length l) is)
 
-  head-is : length (head (elementIn s f)) ≡ headOf f
-  unfolding head elementIn
+  head-is : length (header (elementIn s f)) ≡ headerLength f
+  unfolding header elementIn
   head-is = simp (length-append, length-take, length-drop) (omega (arith, inside))
 
-  read-is : (y : ReadingPlace) → x ≡ y → readingIn c y ≡ some (reading (f .identifier) c)
+  read-is : (y : DecodingPlace) → x ≡ y → decodingIn c y ≡ some (decoding (f .identifier) c)
   read-is y e = rw e at read
 
-  index-at : (n : ℕ) → HeadLength f n → (y : ReadingPlace) → readingIn c y ≡ some (reading (f .identifier) c) → indexIn n y ≤ 131327
-  unfolding indexIn indexBy readingIn innerOf
+  index-at : (n : ℕ) → HeaderLength f n → (y : DecodingPlace) → decodingIn c y ≡ some (decoding (f .identifier) c) → indexIn n y ≤ 131327
+  unfolding indexIn indexBy decodingIn innerOf
   index-at n h (Decoded v) p = omega arith
   index-at n h (Unrecognised Itself) p = omega arith
   index-at n h (Unrecognised (Inner d)) p =
-      let q : unrecognised (Inner d) ≡ reading (f .identifier) c = cc in
+      let q : unrecognised (Inner d) ≡ decoding (f .identifier) c = cc in
       omega (arith, small, h .few, rw (← q) at (inner-inside (f .identifier) c))
 
-  pub index-small : (n : ℕ) → HeadLength f n → indexIn n x ≤ 131327
+  pub index-small : (n : ℕ) → HeaderLength f n → indexIn n x ≤ 131327
   index-small n h = index-at n h x read
 
-  reading-is : reading (elementIn s f .identifier) (elementIn s f .contents) ≡ reading (f .identifier) c
+  reading-is : decoding (elementIn s f .identifier) (elementIn s f .contents) ≡ decoding (f .identifier) c
   unfolding elementIn
   reading-is = rw is
 
-  verdict-of : (pass : Bool) (r : Reading) → reading (f .identifier) c ≡ r → verdict pass (elementIn s f) ≡ verdictBy pass (elementIn s f) r
-  unfolding verdict
+  verdict-of : (pass : Bool) (r : Decoding) → decoding (f .identifier) c ≡ r → finding pass (elementIn s f) ≡ findingBy pass (elementIn s f) r
+  unfolding finding
   verdict-of pass r e = rw (reading-is, e)
 
-  known-by : (o : Option Value) (pass : Bool) → Option·map decoded o ≡ some (reading (f .identifier) c) → Option·map known o ≡ some (verdict pass (elementIn s f))
-  unfolding verdictBy
+  known-by : (o : Option Value) (pass : Bool) → Option·map decoded o ≡ some (decoding (f .identifier) c) → Option·map known o ≡ some (finding pass (elementIn s f))
+  unfolding findingBy
   known-by none pass p = absurd (let z : _≡_ {A = ℕ} 0 1 = cc in omega arith)
   known-by (some v) pass p =
-      let q : reading (f .identifier) c ≡ decoded v = cc in
+      let q : decoding (f .identifier) c ≡ decoded v = cc in
       rw (verdict-of pass (decoded v) q)
 
-  pub verdict-known : (v : ValuePlace) → x ≡ Decoded v → (pass : Bool) → verdictIn (elementIn s f .contents) (Recognised v) ≡ some (verdict pass (elementIn s f))
-  unfolding verdictIn readingIn
+  pub verdict-known : (v : ValuePlace) → x ≡ Decoded v → (pass : Bool) → findingIn (elementIn s f .contents) (Recognised v) ≡ some (finding pass (elementIn s f))
+  unfolding findingIn decodingIn
   verdict-known v e pass = ap (λ (l : List ℕ). Option·map known (valueIn l v)) (sym is) ∙ known-by (valueIn c v) pass (read-is (Decoded v) e)
 
-  judgement-is : (pass : Bool) (p : Place) → verdictBy pass (elementIn s f) (unrecognised p) ≡ unknown (judgement pass (f .identifier) (f .compatibility) (indexBy (headOf f) p))
-  unfolding verdictBy
-  judgement-is pass p = rw head-is (same-judgement s f pass (indexBy (headOf f) p))
+  judgement-is : (pass : Bool) (p : Place) → findingBy pass (elementIn s f) (unrecognised p) ≡ unknown (judgement pass (f .identifier) (f .compatibility) (indexBy (headerLength f) p))
+  unfolding findingBy
+  judgement-is pass p = rw head-is (same-judgement s f pass (indexBy (headerLength f) p))
 
-  pub verdict-unknown : (p : Place) → x ≡ Unrecognised p → (n i : ℕ) → HeadLength f n → i ≡ indexIn n x → (pass : Bool) (j : Judged) → judgementIn j ≡ judgement pass (f .identifier) (f .compatibility) i
-      → verdictIn (elementIn s f .contents) (Unknown j) ≡ some (verdict pass (elementIn s f))
-  unfolding verdictIn readingIn indexIn
+  pub verdict-unknown : (p : Place) → x ≡ Unrecognised p → (n i : ℕ) → HeaderLength f n → i ≡ indexIn n x → (pass : Bool) (j : Judged) → judgementIn j ≡ judgement pass (f .identifier) (f .compatibility) i
+      → findingIn (elementIn s f .contents) (Unknown j) ≡ some (finding pass (elementIn s f))
+  unfolding findingIn decodingIn indexIn
   verdict-unknown p e n i h k pass j g =
-      let q : reading (f .identifier) c ≡ unrecognised p = (let z : some (unrecognised p) ≡ some (reading (f .identifier) c) = read-is (Unrecognised p) e in cc) in
-      let l : i ≡ indexBy (headOf f) p = k ∙ rw (e, h .is) in
+      let q : decoding (f .identifier) c ≡ unrecognised p = (let z : some (unrecognised p) ≡ some (decoding (f .identifier) c) = read-is (Unrecognised p) e in cc) in
+      let l : i ≡ indexBy (headerLength f) p = k ∙ rw (e, h .is) in
       rw (verdict-of pass (unrecognised p) q, judgement-is pass p, g, l)
 
 pub ruleset verdicts = (verdict-known, verdict-unknown)
@@ -131,8 +131,8 @@ module _ (s : List ℕ) (pass : Bool) (x : Framed) (is : frontIn s x ≡ some (f
   unfolding examinedIn examine onFront
   examined-unframed e = rw (frame-unframed s x is e)
 
-  pub examined-element : (f : Frame) → x ≡ Whole f → (v : VerdictPlace) → verdictIn (elementIn s f .contents) v ≡ some (verdict pass (elementIn s f)) → examinedIn s (ElementAt f v) ≡ some (examine pass s)
+  pub examined-element : (f : Frame) → x ≡ Whole f → (v : FindingPlace) → findingIn (elementIn s f .contents) v ≡ some (finding pass (elementIn s f)) → examinedIn s (ElementAt f v) ≡ some (examine pass s)
   unfolding examinedIn examine onFront
-  examined-element f e v p = rw (le-leb (wholeOf f) (length s) (frame-fits s x is f e), frame-is s x is f e, p)
+  examined-element f e v p = rw (le-leb (wholeLength f) (length s) (frame-fits s x is f e), frame-is s x is f e, p)
 
 pub ruleset examined = (examined-ended, examined-unframed, examined-element)

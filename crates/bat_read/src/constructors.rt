@@ -7,15 +7,15 @@ ghost use lib.ListN.{drop};
 ghost use Rattle.bat.specs.declared.Framed.the-variants.{Whole};
 ghost use Rattle.bat.specs.Framing.{front};
 ghost use Rattle.bat.specs.Values.{codecsIn, codecListIn, isSingle, isType, isDuration, lastBy, timedBy, signalBy, signalIn};
-ghost use Rattle.bat.specs.Meaning.{wholeOf, elementIn, frontIn, kindIn, readingIn};
+ghost use Rattle.bat.specs.Meaning.{wholeLength, elementIn, frontIn, innerTypeIn, decodingIn};
 ghost use Rattle.bat_read.specs.Examining.{offenceOf};
 use crate::Offence;
 use bat::Frame;
 use bat::Framed;
 use bat::Place;
-use bat::Reading;
-use bat::Timed;
-use bat::Typed;
+use bat::Decoding;
+use bat::InnerDuration;
+use bat::InnerType;
 use bat::Value;
 use octets::Span;
 
@@ -57,16 +57,16 @@ pub fn find_offence(s: &[u8]) -> Offence
 }
 
 // 4 codec list.
-pub(crate) fn codec_list(s: &[u8]) -> Reading
-    ensures { λ r. ⌜ readingIn (now (s .entry)) r ≡ some (codecListIn (now (s .entry))) ⌝ }
+pub(crate) fn codec_list(s: &[u8]) -> Decoding
+    ensures { λ r. ⌜ decodingIn (now (s .entry)) r ≡ some (codecListIn (now (s .entry))) ⌝ }
 {
     if s.len() == 0 {
-        return Reading::Unrecognised(Place::Itself);
+        return Decoding::Unrecognised(Place::Itself);
     }
     let x = find_offence(s);
     match x {
-        Offence::At(d) => Reading::Unrecognised(Place::Inner(d)),
-        Offence::Nowhere => Reading::Decoded(Value::Codecs(Span {
+        Offence::At(d) => Decoding::Unrecognised(Place::Inner(d)),
+        Offence::Nowhere => Decoding::Decoded(Value::Codecs(Span {
             at: 0,
             len: s.len(),
         })),
@@ -94,67 +94,67 @@ fn is_duration(s: &[u8], f: Frame) -> bool
 }
 
 // Behind the signal type, which has d octets, the element f stands at the front of s.
-fn last(kind: Typed, d: usize, s: &[u8], f: Frame) -> Reading
+fn last(kind: InnerType, d: usize, s: &[u8], f: Frame) -> Decoding
     requires { ⌜ frontIn (now s) (Whole f) ≡ some (front (now s)) ⌝ }
     requires { ⌜ d ≤ 131327 ⌝ }
-    ensures { λ r. ⌜ ((m : List ℕ) → readingIn m r ≡ some (lastBy (kindIn kind) d (elementIn (now (s .entry)) f) (drop (wholeOf f) (now (s .entry))))) ⌝ }
+    ensures { λ r. ⌜ ((m : List ℕ) → decodingIn m r ≡ some (lastBy (innerTypeIn kind) d (elementIn (now (s .entry)) f) (drop (wholeLength f) (now (s .entry))))) ⌝ }
 {
     if is_duration(s, f) {
         let n = bat::framing::whole_length(f);
         if n < s.len() {
-            return Reading::Unrecognised(Place::Inner(d + n));
+            return Decoding::Unrecognised(Place::Inner(d + n));
         }
-        return Reading::Decoded(Value::Signal {
+        return Decoding::Decoded(Value::Signal {
             kind: kind,
-            duration: Timed::Lasting {
+            duration: InnerDuration::Lasting {
                 compatibility: f.compatibility,
                 duration: bat::ranges::word(bat::framing::contents(s, f)),
             },
         });
     }
-    Reading::Unrecognised(Place::Inner(d))
+    Decoding::Unrecognised(Place::Inner(d))
 }
 
 // Behind the signal type, which has d octets, stands s.
-fn timed(kind: Typed, d: usize, s: &[u8]) -> Reading
+fn timed(kind: InnerType, d: usize, s: &[u8]) -> Decoding
     requires { ⌜ d ≤ 131327 ⌝ }
-    ensures { λ r. ⌜ ((m : List ℕ) → readingIn m r ≡ some (timedBy (kindIn kind) d (now (s .entry)))) ⌝ }
+    ensures { λ r. ⌜ ((m : List ℕ) → decodingIn m r ≡ some (timedBy (innerTypeIn kind) d (now (s .entry)))) ⌝ }
 {
     let x = bat::framing::first_element(s);
     match x {
         Framed::Whole(f) => last(kind, d, s, f),
-        Framed::Unframed => Reading::Unrecognised(Place::Inner(d)),
-        Framed::Ended => Reading::Decoded(Value::Signal {
+        Framed::Unframed => Decoding::Unrecognised(Place::Inner(d)),
+        Framed::Ended => Decoding::Decoded(Value::Signal {
             kind: kind,
-            duration: Timed::Untimed,
+            duration: InnerDuration::Untimed,
         }),
     }
 }
 
 // The element f at the front of s is a signal's first.
-fn typed(s: &[u8], f: Frame) -> Reading
+fn typed(s: &[u8], f: Frame) -> Decoding
     requires { ⌜ frontIn (now s) (Whole f) ≡ some (front (now s)) ⌝ }
-    ensures { λ r. ⌜ readingIn (now (s .entry)) r ≡ some (signalBy (elementIn (now (s .entry)) f) (drop (wholeOf f) (now (s .entry)))) ⌝ }
+    ensures { λ r. ⌜ decodingIn (now (s .entry)) r ≡ some (signalBy (elementIn (now (s .entry)) f) (drop (wholeLength f) (now (s .entry)))) ⌝ }
 {
     if is_type(s, f) {
         let d = bat::framing::whole_length(f);
-        let kind = Typed {
+        let kind = InnerType {
             compatibility: f.compatibility,
             kind: bat::framing::octet_at(bat::framing::contents(s, f), 0),
         };
         return timed(kind, d, octets::spans::after(s, d));
     }
-    Reading::Unrecognised(Place::Inner(0))
+    Decoding::Unrecognised(Place::Inner(0))
 }
 
 // 11 signal.
-pub(crate) fn signal(s: &[u8]) -> Reading
-    ensures { λ r. ⌜ readingIn (now (s .entry)) r ≡ some (signalIn (now (s .entry))) ⌝ }
+pub(crate) fn signal(s: &[u8]) -> Decoding
+    ensures { λ r. ⌜ decodingIn (now (s .entry)) r ≡ some (signalIn (now (s .entry))) ⌝ }
 {
     let x = bat::framing::first_element(s);
     match x {
         Framed::Whole(f) => typed(s, f),
-        Framed::Unframed => Reading::Unrecognised(Place::Inner(0)),
-        Framed::Ended => Reading::Unrecognised(Place::Itself),
+        Framed::Unframed => Decoding::Unrecognised(Place::Inner(0)),
+        Framed::Ended => Decoding::Unrecognised(Place::Itself),
     }
 }

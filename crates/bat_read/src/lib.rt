@@ -6,12 +6,12 @@ ghost use mathlib.Core.Path.{_≡_};
 ghost use mathlib.Core.Option.{some};
 ghost use Prim.Native.Nat.{ℕ, _≤_, max};
 ghost use Rattle.bat.specs.Framing.{front};
-ghost use Rattle.bat.specs.Values.{reading};
-ghost use Rattle.bat.specs.Judging.{verdict, judgedData};
-ghost use Rattle.bat.specs.Meaning.{readingIn, elementIn, frontIn, verdictIn, dataNumber, toldBy, toldOf};
+ghost use Rattle.bat.specs.Values.{decoding};
+ghost use Rattle.bat.specs.Judging.{finding, judgedData};
+ghost use Rattle.bat.specs.Meaning.{decodingIn, elementIn, frontIn, findingIn, dataNumber, toldBy, toldOf};
 ghost use Rattle.bat.specs.declared.Framed.the-variants.{Whole};
 ghost use Rattle.bat_read.specs.Examining.{examine, examinedIn, Listing, listings, listingsIn};
-ghost use Rattle.bat_read.specs.Steps.{indexIn, askedIn, gravest, ownIn, ownOf};
+ghost use Rattle.bat_read.specs.Steps.{indexIn, dataAskedIn, gravest, ownIn, ownOf};
 ghost use mathlib.Core.List.{List};
 ghost use lib.ListN.{drop};
 use bat::Counted;
@@ -22,12 +22,12 @@ use bat::Frame;
 use bat::Framed;
 use bat::Outcome;
 use bat::Place;
-use bat::Reading;
-use bat::Verdict;
+use bat::Decoding;
+use bat::Finding;
 
 // An element at the front of a slice and what is made of it.
 pub enum Examined {
-    Element(Frame, Verdict),
+    Element(Frame, Finding),
     Unframed,
     Ended,
 }
@@ -51,8 +51,8 @@ pub enum Offence {
 }
 
 // What the contents of an element with this identifier are read as.
-pub fn decode(identifier: u8, contents: &[u8]) -> Reading
-    ensures { λ r. ⌜ readingIn (now (contents .entry)) r ≡ some (reading identifier (now (contents .entry))) ⌝ }
+pub fn decode(identifier: u8, contents: &[u8]) -> Decoding
+    ensures { λ r. ⌜ decodingIn (now (contents .entry)) r ≡ some (decoding identifier (now (contents .entry))) ⌝ }
 {
     match identifier {
         1 => simple::action(contents),
@@ -70,18 +70,18 @@ pub fn decode(identifier: u8, contents: &[u8]) -> Reading
         13 => simple::indicators(contents),
         14 => simple::signal_type(contents),
         15 => simple::duration(contents),
-        _ => Reading::Unrecognised(Place::Itself),
+        _ => Decoding::Unrecognised(Place::Itself),
     }
 }
 
 // The index of an unrecognised element's diagnostic, whose head has n octets.
-fn index(reading: Reading, n: usize) -> usize
-    requires { ⌜ indexIn n reading ≤ 131327 ⌝ }
-    ensures { λ r. ⌜ r ≡ indexIn n reading ⌝ }
+fn index(decoding: Decoding, n: usize) -> usize
+    requires { ⌜ indexIn n decoding ≤ 131327 ⌝ }
+    ensures { λ r. ⌜ r ≡ indexIn n decoding ⌝ }
 {
-    match reading {
-        Reading::Decoded(_) => 0,
-        Reading::Unrecognised(place) => match place {
+    match decoding {
+        Decoding::Decoded(_) => 0,
+        Decoding::Unrecognised(place) => match place {
             Place::Itself => 0,
             Place::Inner(d) => n + d,
         },
@@ -89,16 +89,16 @@ fn index(reading: Reading, n: usize) -> usize
 }
 
 // What is made of the element f at the front of s.
-fn judge_frame(s: &[u8], f: Frame, pass: bool) -> Verdict
+fn judge_frame(s: &[u8], f: Frame, pass: bool) -> Finding
     requires { ⌜ frontIn (now s) (Whole f) ≡ some (front (now s)) ⌝ }
-    ensures { λ r. ⌜ verdictIn ((elementIn (now (s .entry)) f) .contents) r ≡ some (verdict pass (elementIn (now (s .entry)) f)) ⌝ }
+    ensures { λ r. ⌜ findingIn ((elementIn (now (s .entry)) f) .contents) r ≡ some (finding pass (elementIn (now (s .entry)) f)) ⌝ }
 {
-    let reading = decode(f.identifier, bat::framing::contents(s, f));
-    let Reading::Decoded(value) = reading else {
-        let at = index(reading, bat::framing::head_length(f));
-        return Verdict::Unknown(bat::judging::judge(f.identifier, f.compatibility, at, pass));
+    let decoding = decode(f.identifier, bat::framing::contents(s, f));
+    let Decoding::Decoded(value) = decoding else {
+        let at = index(decoding, bat::framing::header_length(f));
+        return Finding::Unknown(bat::judging::judge(f.identifier, f.compatibility, at, pass));
     };
-    Verdict::Recognised(value)
+    Finding::Recognised(value)
 }
 
 // What stands at the front of s, and what is made of it, where passing on is possible or not.
@@ -114,12 +114,12 @@ pub fn examine_first(s: &[u8], pass: bool) -> Examined
 }
 
 // The outcome that an element's verdict asks for the data.
-fn asks(v: Verdict) -> DataOutcome
-    ensures { λ r. ⌜ dataNumber r ≡ askedIn v ⌝ }
+fn asks(v: Finding) -> DataOutcome
+    ensures { λ r. ⌜ dataNumber r ≡ dataAskedIn v ⌝ }
 {
     match v {
-        Verdict::Recognised(_) => DataOutcome::Neither,
-        Verdict::Unknown(j) => {
+        Finding::Recognised(_) => DataOutcome::Neither,
+        Finding::Unknown(j) => {
             let o = j.outcome;
             match o {
                 Outcome::PassOn => DataOutcome::Neither,
@@ -185,12 +185,12 @@ pub fn judge_data(data: &[u8], entries: usize, pass: bool) -> DataAnswer
 }
 
 // The diagnostic that an element lists, by its verdict.
-fn lists(v: Verdict) -> Own
+fn lists(v: Finding) -> Own
     ensures { λ r. ⌜ ((n : ℕ) (ls : List Listing) → ownIn r n ls ≡ ownOf v n ls) ⌝ }
 {
     match v {
-        Verdict::Recognised(_) => Own::ListsNone,
-        Verdict::Unknown(j) => {
+        Finding::Recognised(_) => Own::ListsNone,
+        Finding::Unknown(j) => {
             if bat::judging::is_listed(j) {
                 let d = j.diagnostic;
                 return Own::Lists(d);

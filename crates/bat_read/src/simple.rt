@@ -4,10 +4,10 @@ ghost use mathlib.Core.Option.{some};
 ghost use lib.ListN.{drop};
 ghost use Rattle.bat_read.specs.Steps.{Stands};
 ghost use Rattle.bat.specs.Values.{actionIn, backboneIn, addressIn, singleIn, reportIn, characteristicsIn, controlIn, tunnellingIn, unitIn, capabilityIn, indicatorsIn, typeIn, durationIn};
-ghost use Rattle.bat.specs.Meaning.{readingIn};
-use bat::Codec;
+ghost use Rattle.bat.specs.Meaning.{decodingIn};
+use bat::SingleCodec;
 use bat::Place;
-use bat::Reading;
+use bat::Decoding;
 use bat::Value;
 use octets::Span;
 
@@ -35,158 +35,158 @@ fn behind(s: &[u8], n: usize) -> Span
 }
 
 // 1 action.
-pub(crate) fn action(s: &[u8]) -> Reading
-    ensures { λ r. ⌜ readingIn (now (s .entry)) r ≡ some (actionIn (now (s .entry))) ⌝ }
+pub(crate) fn action(s: &[u8]) -> Decoding
+    ensures { λ r. ⌜ decodingIn (now (s .entry)) r ≡ some (actionIn (now (s .entry))) ⌝ }
 {
     if s.len() != 1 {
-        return Reading::Unrecognised(Place::Itself);
+        return Decoding::Unrecognised(Place::Itself);
     }
     let b = s[0];
     if codes::is_action(b) {
-        return Reading::Decoded(Value::Action(b));
+        return Decoding::Decoded(Value::Action(b));
     }
-    Reading::Unrecognised(Place::Itself)
+    Decoding::Unrecognised(Place::Itself)
 }
 
 // 2 backbone connection.
-pub(crate) fn backbone(s: &[u8]) -> Reading
-    ensures { λ r. ⌜ readingIn (now (s .entry)) r ≡ some (backboneIn (now (s .entry))) ⌝ }
+pub(crate) fn backbone(s: &[u8]) -> Decoding
+    ensures { λ r. ⌜ decodingIn (now (s .entry)) r ≡ some (backboneIn (now (s .entry))) ⌝ }
 {
     if bat::ranges::between(s, 1, 4) {
-        return Reading::Decoded(Value::Backbone(all(s)));
+        return Decoding::Decoded(Value::Backbone(all(s)));
     }
-    Reading::Unrecognised(Place::Itself)
+    Decoding::Unrecognised(Place::Itself)
 }
 
 // 3 interworking address.
-pub(crate) fn address(s: &[u8]) -> Reading
-    ensures { λ r. ⌜ readingIn (now (s .entry)) r ≡ some (addressIn (now (s .entry))) ⌝ }
+pub(crate) fn address(s: &[u8]) -> Decoding
+    ensures { λ r. ⌜ decodingIn (now (s .entry)) r ≡ some (addressIn (now (s .entry))) ⌝ }
 {
     if bat::ranges::between(s, 1, 20) {
-        return Reading::Decoded(Value::Address(all(s)));
+        return Decoding::Decoded(Value::Address(all(s)));
     }
-    Reading::Unrecognised(Place::Itself)
+    Decoding::Unrecognised(Place::Itself)
 }
 
 // 5 single codec.
-pub(crate) fn single(s: &[u8]) -> Reading
-    ensures { λ r. ⌜ readingIn (now (s .entry)) r ≡ some (singleIn (now (s .entry))) ⌝ }
+pub(crate) fn single(s: &[u8]) -> Decoding
+    ensures { λ r. ⌜ decodingIn (now (s .entry)) r ≡ some (singleIn (now (s .entry))) ⌝ }
 {
     if bat::ranges::is_codec(s) {
-        return Reading::Decoded(Value::Single(Codec {
+        return Decoding::Decoded(Value::Single(SingleCodec {
             organisation: bat::framing::octet_at(s, 0),
             information: behind(s, 1),
         }));
     }
-    Reading::Unrecognised(Place::Itself)
+    Decoding::Unrecognised(Place::Itself)
 }
 
 // 6 compatibility report.
-pub(crate) fn report(s: &[u8]) -> Reading
-    ensures { λ r. ⌜ readingIn (now (s .entry)) r ≡ some (reportIn (now (s .entry))) ⌝ }
+pub(crate) fn report(s: &[u8]) -> Decoding
+    ensures { λ r. ⌜ decodingIn (now (s .entry)) r ≡ some (reportIn (now (s .entry))) ⌝ }
 {
     if s.len() < 1 {
-        return Reading::Unrecognised(Place::Itself);
+        return Decoding::Unrecognised(Place::Itself);
     }
     if (s.len() - 1) % 3 != 0 {
-        return Reading::Unrecognised(Place::Itself);
+        return Decoding::Unrecognised(Place::Itself);
     }
-    Reading::Decoded(Value::Report {
+    Decoding::Decoded(Value::Report {
         reason: s[0],
         diagnostics: behind(s, 1),
     })
 }
 
 // 7 connection characteristics.
-pub(crate) fn characteristics(s: &[u8]) -> Reading
-    ensures { λ r. ⌜ readingIn (now (s .entry)) r ≡ some (characteristicsIn (now (s .entry))) ⌝ }
+pub(crate) fn characteristics(s: &[u8]) -> Decoding
+    ensures { λ r. ⌜ decodingIn (now (s .entry)) r ≡ some (characteristicsIn (now (s .entry))) ⌝ }
 {
     if s.len() != 1 {
-        return Reading::Unrecognised(Place::Itself);
+        return Decoding::Unrecognised(Place::Itself);
     }
     let b = s[0];
     if b <= 4 {
-        return Reading::Decoded(Value::Characteristics(b));
+        return Decoding::Decoded(Value::Characteristics(b));
     }
-    Reading::Unrecognised(Place::Itself)
+    Decoding::Unrecognised(Place::Itself)
 }
 
 // 8 bearer control information.
-pub(crate) fn control(s: &[u8]) -> Reading
-    ensures { λ r. ⌜ readingIn (now (s .entry)) r ≡ some (controlIn (now (s .entry))) ⌝ }
+pub(crate) fn control(s: &[u8]) -> Decoding
+    ensures { λ r. ⌜ decodingIn (now (s .entry)) r ≡ some (controlIn (now (s .entry))) ⌝ }
 {
     if 1 <= s.len() {
-        return Reading::Decoded(Value::Control(all(s)));
+        return Decoding::Decoded(Value::Control(all(s)));
     }
-    Reading::Unrecognised(Place::Itself)
+    Decoding::Unrecognised(Place::Itself)
 }
 
 // 9 tunnelling.
-pub(crate) fn tunnelling(s: &[u8]) -> Reading
-    ensures { λ r. ⌜ readingIn (now (s .entry)) r ≡ some (tunnellingIn (now (s .entry))) ⌝ }
+pub(crate) fn tunnelling(s: &[u8]) -> Decoding
+    ensures { λ r. ⌜ decodingIn (now (s .entry)) r ≡ some (tunnellingIn (now (s .entry))) ⌝ }
 {
     if s.len() != 1 {
-        return Reading::Unrecognised(Place::Itself);
+        return Decoding::Unrecognised(Place::Itself);
     }
-    Reading::Decoded(Value::Tunnelling(s[0] % 2 == 1))
+    Decoding::Decoded(Value::Tunnelling(s[0] % 2 == 1))
 }
 
 // 10 control unit.
-pub(crate) fn unit(s: &[u8]) -> Reading
-    ensures { λ r. ⌜ readingIn (now (s .entry)) r ≡ some (unitIn (now (s .entry))) ⌝ }
+pub(crate) fn unit(s: &[u8]) -> Decoding
+    ensures { λ r. ⌜ decodingIn (now (s .entry)) r ≡ some (unitIn (now (s .entry))) ⌝ }
 {
     if s.len() < 1 {
-        return Reading::Unrecognised(Place::Itself);
+        return Decoding::Unrecognised(Place::Itself);
     }
     let n = bat::framing::octet_at(s, 0) as usize;
     if s.len() - 1 <= n {
-        return Reading::Unrecognised(Place::Itself);
+        return Decoding::Unrecognised(Place::Itself);
     }
-    Reading::Decoded(Value::Unit {
+    Decoding::Decoded(Value::Unit {
         network: Span { at: 1, len: n },
         local: behind(s, 1 + n),
     })
 }
 
 // 12 redirection capability.
-pub(crate) fn capability(s: &[u8]) -> Reading
-    ensures { λ r. ⌜ readingIn (now (s .entry)) r ≡ some (capabilityIn (now (s .entry))) ⌝ }
+pub(crate) fn capability(s: &[u8]) -> Decoding
+    ensures { λ r. ⌜ decodingIn (now (s .entry)) r ≡ some (capabilityIn (now (s .entry))) ⌝ }
 {
     if s.len() < 1 {
-        return Reading::Unrecognised(Place::Itself);
+        return Decoding::Unrecognised(Place::Itself);
     }
     if bat::framing::count_unmarked(s) != s.len() - 1 {
-        return Reading::Unrecognised(Place::Itself);
+        return Decoding::Unrecognised(Place::Itself);
     }
-    Reading::Decoded(Value::Capability(s[0] % 2 == 1))
+    Decoding::Decoded(Value::Capability(s[0] % 2 == 1))
 }
 
 // 13 redirection indicators.
-pub(crate) fn indicators(s: &[u8]) -> Reading
-    ensures { λ r. ⌜ readingIn (now (s .entry)) r ≡ some (indicatorsIn (now (s .entry))) ⌝ }
+pub(crate) fn indicators(s: &[u8]) -> Decoding
+    ensures { λ r. ⌜ decodingIn (now (s .entry)) r ≡ some (indicatorsIn (now (s .entry))) ⌝ }
 {
     if bat::ranges::are_indicators(s) {
-        return Reading::Decoded(Value::Indicators(all(s)));
+        return Decoding::Decoded(Value::Indicators(all(s)));
     }
-    Reading::Unrecognised(Place::Itself)
+    Decoding::Unrecognised(Place::Itself)
 }
 
 // 14 signal type.
-pub(crate) fn signal_type(s: &[u8]) -> Reading
-    ensures { λ r. ⌜ readingIn (now (s .entry)) r ≡ some (typeIn (now (s .entry))) ⌝ }
+pub(crate) fn signal_type(s: &[u8]) -> Decoding
+    ensures { λ r. ⌜ decodingIn (now (s .entry)) r ≡ some (typeIn (now (s .entry))) ⌝ }
 {
     if bat::ranges::is_type(s) {
-        return Reading::Decoded(Value::SignalType(bat::framing::octet_at(s, 0)));
+        return Decoding::Decoded(Value::SignalType(bat::framing::octet_at(s, 0)));
     }
-    Reading::Unrecognised(Place::Itself)
+    Decoding::Unrecognised(Place::Itself)
 }
 
 // 15 duration.
-pub(crate) fn duration(s: &[u8]) -> Reading
-    ensures { λ r. ⌜ readingIn (now (s .entry)) r ≡ some (durationIn (now (s .entry))) ⌝ }
+pub(crate) fn duration(s: &[u8]) -> Decoding
+    ensures { λ r. ⌜ decodingIn (now (s .entry)) r ≡ some (durationIn (now (s .entry))) ⌝ }
 {
     if s.len() != 2 {
-        return Reading::Unrecognised(Place::Itself);
+        return Decoding::Unrecognised(Place::Itself);
     }
-    Reading::Decoded(Value::Duration(bat::ranges::word(s)))
+    Decoding::Decoded(Value::Duration(bat::ranges::word(s)))
 }

@@ -22,7 +22,7 @@ use Rattle.bat.proofs.Framed.{the-type}
 use Rattle.bat.proofs.CountLaws.{frame-ended, frame-unframed, frame-inside, frame-first, frame-length, frame-some}
 use Rattle.bat_table.specs.declared.Plan.{Plan}
 use Rattle.bat_table.specs.declared.Step.{Step}
-use Rattle.bat_table.specs.Table.{refusedFrom, codeOf}
+use Rattle.bat_table.specs.Table.{refusedFrom, countForC}
 use Rattle.bat_table.specs.Steps.{planFor, stayAt, stepAt}
 
 -- ---- what is to be done
@@ -55,5 +55,5 @@ module _ (s : List ℕ) (at : ℕ) where
       step-whole = rw (← here, frame-first t x is f e w l, frame-length t x is f e w l)
 
 -- ---- an answer as one number
-pub code-refused : (c : Counted) (k n : ℕ) → c ≡ Refused k → n ≡ k → refusedFrom + n ≡ codeOf c
+pub code-refused : (c : Counted) (k n : ℕ) → c ≡ Refused k → n ≡ k → refusedFrom + n ≡ countForC c
 code-refused c k n e h = rw (e, h)

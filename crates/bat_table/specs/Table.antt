@@ -27,8 +27,8 @@ unfoldable pub tableAfter : List ℕ → List Entry → List Entry
 tableAfter s ys = filledBy (cut (length ys) s) ys
 
 -- the octets of the data s that an entry names
-abbrev pub partOf : List ℕ → Entry → List ℕ
-partOf s x = take (x .length) (drop (x .start) s)
+abbrev pub entryOctets : List ℕ → Entry → List ℕ
+entryOctets s x = take (x .length) (drop (x .start) s)
 
 -- what stands for an entry where there is none
 abbrev pub noEntry : Entry
@@ -38,6 +38,6 @@ noEntry = record { identifier = 0; start = 0; length = 0 }
 abbrev pub refusedFrom : ℕ
 refusedFrom = 65536
 
-abbrev pub codeOf : Counted → ℕ
-codeOf (Elements n) = n
-codeOf (Refused n) = refusedFrom + n
+abbrev pub countForC : Counted → ℕ
+countForC (Elements n) = n
+countForC (Refused n) = refusedFrom + n

@@ -7,7 +7,7 @@ ghost use mathlib.Core.Path.{_≡_};
 ghost use lib.ListN.{length, getD};
 ghost use Rattle.bat.specs.Framing.{cut};
 ghost use Rattle.bat.specs.Meaning.{countOf};
-ghost use Rattle.bat_table.specs.Table.{noEntry, tableAfter, codeOf};
+ghost use Rattle.bat_table.specs.Table.{noEntry, tableAfter, countForC};
 use bat::Counted;
 
 // For C, a refusal's number stands above this.
@@ -71,7 +71,7 @@ pub fn entry_at(table: &[Entry], i: usize) -> Entry
 // the data.
 #[no_mangle]
 pub extern "C" fn bat_table_store(data: &[u8], table: &mut [Entry]) -> usize
-    ensures { λ r. ⌜ (r ≡ codeOf (countOf (cut (length (now (table .entry))) (now («data» .entry))))) × (now (table .exit) ≡ tableAfter (now («data» .entry)) (now (table .entry))) ⌝ }
+    ensures { λ r. ⌜ (r ≡ countForC (countOf (cut (length (now (table .entry))) (now («data» .entry))))) × (now (table .exit) ≡ tableAfter (now («data» .entry)) (now (table .entry))) ⌝ }
 {
     steps::code(store_elements(data, table))
 }

@@ -1,6 +1,6 @@
 // From one element of the data to the next, for every place: what the functions over a table call.
 ghost use mathlib.Core.Path.{_≡_};
-ghost use Rattle.bat_table.specs.Table.{codeOf};
+ghost use Rattle.bat_table.specs.Table.{countForC};
 ghost use Rattle.bat_table.specs.Steps.{planFor, stepAt};
 use crate::Entry;
 use crate::Plan;
@@ -11,7 +11,7 @@ use bat::Framed;
 
 // An answer as one number.
 pub(crate) fn code(c: Counted) -> usize
-    ensures { λ r. ⌜ r ≡ codeOf c ⌝ }
+    ensures { λ r. ⌜ r ≡ countForC c ⌝ }
 {
     match c {
         Counted::Elements(n) => n,

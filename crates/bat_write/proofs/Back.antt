@@ -13,17 +13,17 @@ use borrow.Author.Tests.{lt-ltb, leb-true}
 use Rattle.octets.specs.Spans.{textOf}
 use Rattle.octets.proofs.PutsLaws.{puts-no, puts-some}
 use Rattle.octets.proofs.CaseLaws.{by-bool}
-use Rattle.bat.specs.declared.Timed.{Timed}
-use Rattle.bat.specs.declared.Timed.the-variants.{Untimed, Lasting as LastingFor}
+use Rattle.bat.specs.declared.InnerDuration.{InnerDuration as DurationPlace}
+use Rattle.bat.specs.declared.InnerDuration.the-variants.{Untimed, Lasting as LastingFor}
 use Rattle.bat.specs.declared.Value.{Value as ValuePlace}
 use Rattle.bat.specs.declared.Value.the-variants.{Action, Backbone, Address, Codecs as CodecsPlace, Single, Report, Characteristics, Control, Tunnelling, Unit as UnitPlace, Signal, Capability, Indicators, SignalType, Duration}
 use Rattle.octets.specs.declared.Put.the-variants.{Octets}
 use Rattle.bat.specs.Framing.{mostOctets}
 use Rattle.bat.specs.Values.{Diagnostic, Value, report, meant, diagnosticsIn, Codecs, allCodecs, offence, onCodecs, codecsIn}
 use Rattle.octets.specs.Puts.{Puts}
-use Rattle.bat.specs.Writing.{inRange, valueText, octetsOf, octetsIn}
-use Rattle.bat.specs.Meaning.{lastingIn, valueBy, allInside, valueIn}
-use Rattle.bat.specs.Back.{sevenBitLasting, sevenBits}
+use Rattle.bat.specs.Writing.{valueInRange, valueText, elementOctets, elementOctetsIn}
+use Rattle.bat.specs.Meaning.{innerDurationIn, valueBy, valueInside, valueIn}
+use Rattle.bat.specs.Back.{sevenBitDuration, sevenBits}
 use Rattle.bat.proofs.RoundTrip.{read-written}
 use Rattle.bat_write.specs.Texts.{listOf}
 use Rattle.bat_write.specs.Back.{WrittenBack}
@@ -43,8 +43,8 @@ report-seven r (some ds) = refl
 meant-small : (c : ℕ) → ltb (meant c) 128 ≡ true
 meant-small c = lt-ltb (meant c) 128 (omega arith)
 
-lasting-seven : (t : Timed) → sevenBitLasting (lastingIn t) ≡ true
-unfolding lastingIn sevenBitLasting
+lasting-seven : (t : DurationPlace) → sevenBitDuration (innerDurationIn t) ≡ true
+unfolding innerDurationIn sevenBitDuration
 lasting-seven Untimed = refl
 lasting-seven (LastingFor c n) = meant-small c
 
@@ -68,14 +68,14 @@ seven-in s (Duration n) = refl
 
 seven-inside : (s : List ℕ) (v : ValuePlace) → Option·elim (valueIn s v) true sevenBits ≡ true
 unfolding valueIn Option·elim
-seven-inside s v = by-bool (allInside s v) _ (λ b. rw b (seven-in s v)) (λ b. rw b)
+seven-inside s v = by-bool (valueInside s v) _ (λ b. rw b (seven-in s v)) (λ b. rw b)
 
 module _ (s : List ℕ) (v : ValuePlace) (c : ℕ) (l : List ℕ) (n : ℕ) (f : List ℕ) where
-  back-right : (w : Value) → valueIn s v ≡ some w → (inRange w && leb (length (valueText (meant c) w)) mostOctets) ≡ true → sevenBits w ≡ true
+  back-right : (w : Value) → valueIn s v ≡ some w → (valueInRange w && leb (length (valueText (meant c) w)) mostOctets) ≡ true → sevenBits w ≡ true
       → Puts (some (valueText (meant c) w)) l (Octets n) f → WrittenBack s v c n f
   back-right w is h q p =
       let t = valueText (meant c) w in
-      let (right, short) = and-eq-true-iff (inRange w) (leb (length t) mostOctets) .0 h in
+      let (right, short) = and-eq-true-iff (valueInRange w) (leb (length t) mostOctets) .0 h in
       let (count, leaves) = puts-some t l n f p in
       let rest = drop (length t) l in
       let back = read-written (meant c) w rest (omega arith) right q (leb-true _ _ short) in
@@ -90,13 +90,13 @@ module _ (s : List ℕ) (v : ValuePlace) (c : ℕ) (l : List ℕ) (n : ℕ) (f :
         decodes = back .decodes;
       }
 
-  back-of : (o : Option Value) → valueIn s v ≡ o → Option·elim o true sevenBits ≡ true → Puts (octetsIn (meant c) o) l (Octets n) f → WrittenBack s v c n f
-  unfolding octetsIn octetsOf Option·elim
+  back-of : (o : Option Value) → valueIn s v ≡ o → Option·elim o true sevenBits ≡ true → Puts (elementOctetsIn (meant c) o) l (Octets n) f → WrittenBack s v c n f
+  unfolding elementOctetsIn elementOctets Option·elim
   back-of none is q p = absurd (puts-no l n f p)
   back-of (some w) is q p =
-      by-bool (inRange w && leb (length (valueText (meant c) w)) mostOctets) _
+      by-bool (valueInRange w && leb (length (valueText (meant c) w)) mostOctets) _
       (λ h. back-right w is h q (rw h at p))
       (λ h. absurd (puts-no l n f (rw h at p)))
 
-  pub written-back : Puts (octetsIn (meant c) (valueIn s v)) l (Octets n) f → WrittenBack s v c n f
+  pub written-back : Puts (elementOctetsIn (meant c) (valueIn s v)) l (Octets n) f → WrittenBack s v c n f
   written-back p = back-of (valueIn s v) refl (seven-inside s v) p

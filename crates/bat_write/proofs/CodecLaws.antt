@@ -17,8 +17,8 @@ use Rattle.bat.specs.declared.Frame.{Frame}
 use Rattle.bat.specs.declared.Framed.{Framed}
 use Rattle.bat.specs.declared.Framed.the-variants.{Whole, Unframed, Ended}
 use Rattle.bat.specs.Framing.{Element, whole, first, unframed, ended, front, walk}
-use Rattle.bat.specs.Values.{ListedCodec, Codecs, allCodecs, offence, withCodec, onCodecs, isSingle, codecThen, codecsIn, listedCodec, rightCodec, codecOf, meant}
-use Rattle.bat.specs.Writing.{elementText, codecText, codecsText, contentsText, allCodecsRight, inRange}
+use Rattle.bat.specs.Values.{InnerCodec, Codecs, allCodecs, offence, withSingle, onCodecs, isSingle, codecThen, codecsIn, innerCodec, rightSingle, singleCodec, meant}
+use Rattle.bat.specs.Writing.{elementText, codecText, codecsText, contentsText, allSinglesRight, valueInRange}
 use Rattle.bat.specs.Meaning.{elementIn, frontIn, WholeLength}
 use Rattle.bat.proofs.WalkLaws.{size-small, front-size, front-nil, walk-ended, walk-unframed, walk-first, fold-ended, fold-unframed, fold-first, by-front}
 use Rattle.bat.proofs.CountLaws.{frame-ended, frame-unframed, frame-first}
@@ -26,7 +26,7 @@ use Rattle.bat.specs.Back.{sevenBitCodecs}
 use Rattle.bat_read.specs.declared.Offence.{Offence}
 use Rattle.bat_read.specs.declared.Offence.the-variants.{At, Nowhere}
 use Rattle.bat_read.specs.Examining.{offenceOf}
-use Rattle.bat_write.specs.Texts.{listOf, codecsOf, inRangeIn, contentsIn, codecsAnew}
+use Rattle.bat_write.specs.Texts.{listOf, codecsOf, valueInRangeIn, contentsIn, codecsAnew}
 
 -- ---- the contents of an element have at most 2,046 octets
 pub contents-small : (t : List ℕ) (x : Framed) (f : Frame) (w : ℕ) (u : List ℕ) → frontIn t x ≡ some (front t) → x ≡ Whole f → WholeLength f w → u ≡ elementIn t f .contents → length u ≤ 2046
@@ -50,28 +50,28 @@ module _ (s : List ℕ) where
 
 -- ---- what the elements are read as
 -- the contents of a single codec are its text
-codec-text : (s : List ℕ) → rightCodec (codecOf s) ≡ true → codecText (codecOf s) ≡ s
-unfolding rightCodec
+codec-text : (s : List ℕ) → rightSingle (singleCodec s) ≡ true → codecText (singleCodec s) ≡ s
+unfolding rightSingle
 codec-text [] p = absurd (let z : _≡_ {A = ℕ} 0 1 = cc in omega arith)
 codec-text (b ∷ s) p = refl
 
-single-right : (e : Element) → isSingle e ≡ true → rightCodec (codecOf (e .contents)) ≡ true
+single-right : (e : Element) → isSingle e ≡ true → rightSingle (singleCodec (e .contents)) ≡ true
 unfolding isSingle
-single-right e p = and-eq-true-iff (eqb (e .identifier) 5) (rightCodec (codecOf (e .contents))) .0 p .1
+single-right e p = and-eq-true-iff (eqb (e .identifier) 5) (rightSingle (singleCodec (e .contents))) .0 p .1
 
 -- s is the codecs cs: they are written as s is anew, each is right, the compatibility of each is seven bits, and there are some where s is not empty
-pub record Listed (s : List ℕ) (cs : List ListedCodec) : Type 0 where
+pub record Listed (s : List ℕ) (cs : List InnerCodec) : Type 0 where
   pub text : codecsAnew s ≡ codecsText cs
-  pub right : allCodecsRight cs ≡ true
+  pub right : allSinglesRight cs ≡ true
   pub settles : sevenBitCodecs cs ≡ true
   pub many : 1 ≤ length s → 1 ≤ length cs
 
-listed-with : (s : List ℕ) (e : Element) (t : List ℕ) (x : Codecs) (cs : List ListedCodec) → front s ≡ first e t
-    → ((bs : List ListedCodec) → x ≡ allCodecs bs → Listed t bs) → isSingle e ≡ true → withCodec (listedCodec e) x ≡ allCodecs cs → Listed s cs
-unfolding withCodec codecsText allCodecsRight sevenBitCodecs
+listed-with : (s : List ℕ) (e : Element) (t : List ℕ) (x : Codecs) (cs : List InnerCodec) → front s ≡ first e t
+    → ((bs : List InnerCodec) → x ≡ allCodecs bs → Listed t bs) → isSingle e ≡ true → withSingle (innerCodec e) x ≡ allCodecs cs → Listed s cs
+unfolding withSingle codecsText allSinglesRight sevenBitCodecs
 listed-with s e t (offence n) cs q ih single p = absurd (let z : _≡_ {A = ℕ} 0 1 = cc in omega arith)
 listed-with s e t (allCodecs bs) cs q ih single p =
-    let is : listedCodec e ∷ bs ≡ cs = cc in
+    let is : innerCodec e ∷ bs ≡ cs = cc in
     let right = single-right e single in
     let rest = ih bs refl in
     rw (← is)
@@ -82,55 +82,55 @@ listed-with s e t (allCodecs bs) cs q ih single p =
       many = λ h. omega arith;
     })
 
-listed-at : (s : List ℕ) (d : ℕ) (cs : List ListedCodec) → walk codecThen offence (allCodecs []) d s ≡ allCodecs cs → Listed s cs
-unfolding codecThen codecsText allCodecsRight sevenBitCodecs
+listed-at : (s : List ℕ) (d : ℕ) (cs : List InnerCodec) → walk codecThen offence (allCodecs []) d s ≡ allCodecs cs → Listed s cs
+unfolding codecThen codecsText allSinglesRight sevenBitCodecs
 listed-at =
-    by-front (λ (s : List ℕ). (d : ℕ) (cs : List ListedCodec) → walk codecThen offence (allCodecs []) d s ≡ allCodecs cs → Listed s cs)
+    by-front (λ (s : List ℕ). (d : ℕ) (cs : List InnerCodec) → walk codecThen offence (allCodecs []) d s ≡ allCodecs cs → Listed s cs)
     (λ d cs p. let w = walk-ended codecThen offence (allCodecs []) d [] front-nil in
-    let is : _≡_ {A = List ListedCodec} [] cs = cc in
+    let is : _≡_ {A = List InnerCodec} [] cs = cc in
     rw (← is) (record { text = anew-ended [] front-nil; right = refl; settles = refl; many = λ h. h }))
     (λ s q d cs p. absurd (let w = walk-unframed codecThen offence (allCodecs []) d s q in let z : _≡_ {A = ℕ} 0 1 = cc in omega arith))
     (λ s e t q ih d cs p.
     let x = walk codecThen offence (allCodecs []) (d + length (whole e)) t in
-    let w : cond (isSingle e) (withCodec (listedCodec e) x) (offence d) ≡ allCodecs cs = sym (walk-first codecThen offence (allCodecs []) d s e t q) ∙ p in
+    let w : cond (isSingle e) (withSingle (innerCodec e) x) (offence d) ≡ allCodecs cs = sym (walk-first codecThen offence (allCodecs []) d s e t q) ∙ p in
     by-bool (isSingle e) _
     (λ single. listed-with s e t x cs q (λ bs. ih (d + length (whole e)) bs) single (rw single at w))
     (λ single. let z : offence d ≡ allCodecs cs = rw single at w in absurd (let z : _≡_ {A = ℕ} 0 1 = cc in omega arith)))
 
-pub listed : (s : List ℕ) (cs : List ListedCodec) → codecsIn s ≡ allCodecs cs → Listed s cs
+pub listed : (s : List ℕ) (cs : List InnerCodec) → codecsIn s ≡ allCodecs cs → Listed s cs
 unfolding codecsIn
 listed s cs p = listed-at s 0 cs p
 
 -- ---- the list that s is
-listed-text : (s : List ℕ) (x : Codecs) → codecsIn s ≡ x → inRangeIn (listOf x) ≡ true → codecsAnew s ≡ contentsIn (listOf x)
-unfolding onCodecs inRangeIn contentsIn contentsText
+listed-text : (s : List ℕ) (x : Codecs) → codecsIn s ≡ x → valueInRangeIn (listOf x) ≡ true → codecsAnew s ≡ contentsIn (listOf x)
+unfolding onCodecs valueInRangeIn contentsIn contentsText
 listed-text s (allCodecs cs) p h = listed s cs p .text
 listed-text s (offence d) p h = absurd (let z : _≡_ {A = ℕ} 0 1 = cc in omega arith)
 
 -- a list that is right has the text that s has, written anew
-pub codecs-text : (s : List ℕ) → inRangeIn (codecsOf s) ≡ true → codecsAnew s ≡ contentsIn (codecsOf s)
+pub codecs-text : (s : List ℕ) → valueInRangeIn (codecsOf s) ≡ true → codecsAnew s ≡ contentsIn (codecsOf s)
 codecs-text s h = listed-text s (codecsIn s) refl h
 
-pub codecs-none : (s : List ℕ) → length s < 1 → false ≡ inRangeIn (codecsOf s)
-unfolding onCodecs inRangeIn inRange codecsIn
+pub codecs-none : (s : List ℕ) → length s < 1 → false ≡ valueInRangeIn (codecsOf s)
+unfolding onCodecs valueInRangeIn valueInRange codecsIn
 codecs-none [] h = rw (walk-ended codecThen offence (allCodecs []) 0 [] front-nil)
 codecs-none (b ∷ s) h = absurd (omega arith)
 
-codecs-with : (s : List ℕ) (y : Codecs) → codecsIn s ≡ y → offenceOf y ≡ Nowhere → 1 ≤ length s → true ≡ inRangeIn (listOf y)
-unfolding offenceOf onCodecs inRangeIn inRange
+codecs-with : (s : List ℕ) (y : Codecs) → codecsIn s ≡ y → offenceOf y ≡ Nowhere → 1 ≤ length s → true ≡ valueInRangeIn (listOf y)
+unfolding offenceOf onCodecs valueInRangeIn valueInRange
 codecs-with s (allCodecs cs) p e h = let z = listed s cs p in rw (le-leb 1 (length cs) (z .many h), z .right)
 codecs-with s (offence d) p e h = absurd (let z : _≡_ {A = ℕ} 0 1 = cc in omega arith)
 
-codecs-without : (y : Codecs) (d : ℕ) → offenceOf y ≡ At d → false ≡ inRangeIn (listOf y)
-unfolding offenceOf onCodecs inRangeIn
+codecs-without : (y : Codecs) (d : ℕ) → offenceOf y ≡ At d → false ≡ valueInRangeIn (listOf y)
+unfolding offenceOf onCodecs valueInRangeIn
 codecs-without (allCodecs cs) d e = absurd (let z : _≡_ {A = ℕ} 0 1 = cc in omega arith)
 codecs-without (offence n) d e = refl
 
 module _ (s : List ℕ) (x : Offence) (is : x ≡ offenceOf (codecsIn s)) where
-  pub codecs-all : x ≡ Nowhere → 1 ≤ length s → true ≡ inRangeIn (codecsOf s)
+  pub codecs-all : x ≡ Nowhere → 1 ≤ length s → true ≡ valueInRangeIn (codecsOf s)
   codecs-all e h = codecs-with s (codecsIn s) refl (sym is ∙ e) h
 
-  pub codecs-offence : (d : ℕ) → x ≡ At d → false ≡ inRangeIn (codecsOf s)
+  pub codecs-offence : (d : ℕ) → x ≡ At d → false ≡ valueInRangeIn (codecsOf s)
   codecs-offence d e = codecs-without (codecsIn s) d (sym is ∙ e)
 
 -- ---- one after the other

@@ -14,15 +14,15 @@ use Rattle.octets.specs.declared.Span.{Span}
 use Rattle.octets.specs.Spans.{textOf}
 use Rattle.octets.specs.Append.{Appends}
 use Rattle.octets.proofs.AppendLaws.{append-nil, append-then, octet-then}
-use Rattle.bat.specs.declared.Typed.{Typed}
-use Rattle.bat.specs.declared.Timed.{Timed}
-use Rattle.bat.specs.declared.Timed.the-variants.{Untimed, Lasting as LastingFor}
+use Rattle.bat.specs.declared.InnerType.{InnerType as TypePlace}
+use Rattle.bat.specs.declared.InnerDuration.{InnerDuration as DurationPlace}
+use Rattle.bat.specs.declared.InnerDuration.the-variants.{Untimed, Lasting as LastingFor}
 use Rattle.bat.specs.declared.Value.{Value as ValuePlace}
 use Rattle.bat.specs.declared.Value.the-variants.{Codecs as CodecsPlace, Report, Unit as UnitPlace, Capability}
 use Rattle.bat.specs.Values.{signal, meant}
-use Rattle.bat.specs.Writing.{elementText, wordText, lastingText, bitText, contentsText, inRange}
-use Rattle.bat.specs.Meaning.{kindIn, lastingIn, valueBy}
-use Rattle.bat_write.specs.Texts.{codecsOf, reportOf, inRangeIn, contentsIn, codecsAnew}
+use Rattle.bat.specs.Writing.{elementText, sixteenBitsText, innerDurationText, bitText, contentsText, valueInRange}
+use Rattle.bat.specs.Meaning.{innerTypeIn, innerDurationIn, valueBy}
+use Rattle.bat_write.specs.Texts.{codecsOf, reportOf, valueInRangeIn, contentsIn, codecsAnew}
 use Rattle.bat_write.proofs.CodecLaws.{codecs-text}
 
 module _ (l f : List ℕ) (at r : ℕ) where
@@ -30,18 +30,18 @@ module _ (l f : List ℕ) (at r : ℕ) where
   pub octet-text : (g t u : List ℕ) (k b : ℕ) → Appends g k t r f → t ≡ u → Appends l at (b ∷ []) k g → Appends l at (b ∷ u) r f
   octet-text g t u k b q e p = rw e at (octet-then l f g at k r b t q p)
 
-  pub lasting-none : (d : Timed) → d ≡ Untimed → Appends l at (lastingText (lastingIn d)) at l
-  unfolding lastingText lastingIn
+  pub lasting-none : (d : DurationPlace) → d ≡ Untimed → Appends l at (innerDurationText (innerDurationIn d)) at l
+  unfolding innerDurationText innerDurationIn
   lasting-none d e = rw e (append-nil l at)
 
-  pub lasting-some : (d : Timed) (c n : ℕ) → d ≡ LastingFor c n → Appends l at (elementText 15 (meant c) (wordText n)) r f → Appends l at (lastingText (lastingIn d)) r f
-  unfolding lastingText lastingIn
+  pub lasting-some : (d : DurationPlace) (c n : ℕ) → d ≡ LastingFor c n → Appends l at (elementText 15 (meant c) (sixteenBitsText n)) r f → Appends l at (innerDurationText (innerDurationIn d)) r f
+  unfolding innerDurationText innerDurationIn
   lasting-some d c n e p = rw e p
 
-  pub signal-then : (g : List ℕ) (k : ℕ) (d : Timed) (t : Typed) → Appends g k (lastingText (lastingIn d)) r f → Appends l at (elementText 14 (meant (t .compatibility)) (t .kind ∷ [])) k g
-      → Appends l at (contentsText (signal (kindIn t) (lastingIn d))) r f
+  pub signal-then : (g : List ℕ) (k : ℕ) (d : DurationPlace) (t : TypePlace) → Appends g k (innerDurationText (innerDurationIn d)) r f → Appends l at (elementText 14 (meant (t .compatibility)) (t .kind ∷ [])) k g
+      → Appends l at (contentsText (signal (innerTypeIn t) (innerDurationIn d))) r f
   unfolding contentsText
-  signal-then g k d t q p = append-then l g f (elementText 14 (meant (t .compatibility)) (t .kind ∷ [])) (lastingText (lastingIn d)) at k r q p
+  signal-then g k d t q p = append-then l g f (elementText 14 (meant (t .compatibility)) (t .kind ∷ [])) (innerDurationText (innerDurationIn d)) at k r q p
 
 -- ---- a value v whose spans are places in s
 module _ (s l f : List ℕ) (at r : ℕ) (v : ValuePlace) where
@@ -49,11 +49,11 @@ module _ (s l f : List ℕ) (at r : ℕ) (v : ValuePlace) where
   pub stands : (w : ValuePlace) (t : List ℕ) → v ≡ w → Appends l at t r f → t ≡ contentsIn (valueBy s w) → Appends l at (contentsIn (valueBy s v)) r f
   stands w t e p q = rw (e, ← q) p
 
-  pub stands-codecs : (p : Span) (t : List ℕ) → inRangeIn (valueBy s v) ≡ true → v ≡ CodecsPlace p → t ≡ textOf s p → Appends l at (codecsAnew t) r f
+  pub stands-codecs : (p : Span) (t : List ℕ) → valueInRangeIn (valueBy s v) ≡ true → v ≡ CodecsPlace p → t ≡ textOf s p → Appends l at (codecsAnew t) r f
       → Appends l at (contentsIn (valueBy s v)) r f
   unfolding valueBy
   stands-codecs p t h e q a =
-      let i : inRangeIn (codecsOf (textOf s p)) ≡ true = rw e at h in
+      let i : valueInRangeIn (codecsOf (textOf s p)) ≡ true = rw e at h in
       let z : Appends l at (codecsAnew (textOf s p)) r f = rw q at a in
       rw e (rw (codecs-text (textOf s p) i) at z)
 
@@ -72,13 +72,13 @@ module _ (s l f : List ℕ) (at r : ℕ) (v : ValuePlace) where
 pub ruleset standing = (stands, stands-codecs, stands-report, stands-unit, stands-capability)
 
 -- what the parts of a value that is in range have
-module _ (s : List ℕ) (v : ValuePlace) (h : inRangeIn (valueBy s v) ≡ true) where
-  pub report-right : (n : ℕ) (p : Span) (t : List ℕ) → v ≡ Report n p → t ≡ textOf s p → inRangeIn (reportOf n t) ≡ true
+module _ (s : List ℕ) (v : ValuePlace) (h : valueInRangeIn (valueBy s v) ≡ true) where
+  pub report-right : (n : ℕ) (p : Span) (t : List ℕ) → v ≡ Report n p → t ≡ textOf s p → valueInRangeIn (reportOf n t) ≡ true
   unfolding valueBy
   report-right n p t e q = rw q (rw e at h)
 
   pub unit-right : (n p : Span) (t : List ℕ) → v ≡ UnitPlace n p → t ≡ textOf s n → length t ≤ 255
-  unfolding valueBy inRangeIn inRange
+  unfolding valueBy valueInRangeIn valueInRange
   unit-right n p t e q =
       let z : (leb (length (textOf s n)) 255 && leb 1 (length (textOf s p))) ≡ true = rw e at h in
       rw q (leb-true _ _ (and-eq-true-iff (leb (length (textOf s n)) 255) (leb 1 (length (textOf s p))) .0 z .0))

@@ -12,8 +12,8 @@ use mir.Syntax.{w8}
 use mir.Val.{Fits}
 use Rattle.octets.specs.Append.{Appends}
 use Rattle.bat.specs.Values.{Diagnostic, report, diagnosticsIn}
-use Rattle.bat.specs.Writing.{diagnosticsText, contentsText, inRange}
-use Rattle.bat_write.specs.Texts.{reportOf, inRangeIn, contentsIn}
+use Rattle.bat.specs.Writing.{diagnosticsText, contentsText, valueInRange}
+use Rattle.bat_write.specs.Texts.{reportOf, valueInRangeIn, contentsIn}
 use Rattle.octets.proofs.AppendLaws.{octet-then}
 
 diagnostics-with : (i a b : ℕ) (s : List ℕ) (o : Option (List Diagnostic)) (ds : List Diagnostic) → Fits w8 b → ((es : List Diagnostic) → o ≡ some es → diagnosticsText es ≡ s)
@@ -36,24 +36,24 @@ diagnostics-again (i ∷ a ∷ b ∷ s) ds h p =
     diagnostics-with i a b s (diagnosticsIn s) ds (h 2) (λ es. diagnostics-again s es (λ k. h (suc (suc (suc k))))) p
 
 report-text : (r : ℕ) (s : List ℕ) (o : Option (List Diagnostic)) → ((ds : List Diagnostic) → o ≡ some ds → diagnosticsText ds ≡ s)
-    → inRangeIn (Option·map (report r) o) ≡ true → r ∷ s ≡ contentsIn (Option·map (report r) o)
-unfolding inRangeIn contentsIn contentsText
+    → valueInRangeIn (Option·map (report r) o) ≡ true → r ∷ s ≡ contentsIn (Option·map (report r) o)
+unfolding valueInRangeIn contentsIn contentsText
 report-text r s none ih p = absurd (let z : _≡_ {A = ℕ} 0 1 = cc in omega arith)
 report-text r s (some ds) ih p = rw (ih ds refl)
 
-pub report-then : (l f : List ℕ) (at r : ℕ) (g : List ℕ) (k b : ℕ) (s : List ℕ) → ((i : ℕ) → Fits w8 (getD s i 0)) → inRangeIn (reportOf b s) ≡ true → Appends g k s r f → Appends l at (b ∷ []) k g
+pub report-then : (l f : List ℕ) (at r : ℕ) (g : List ℕ) (k b : ℕ) (s : List ℕ) → ((i : ℕ) → Fits w8 (getD s i 0)) → valueInRangeIn (reportOf b s) ≡ true → Appends g k s r f → Appends l at (b ∷ []) k g
     → Appends l at (contentsIn (reportOf b s)) r f
 report-then l f at r g k b s h i q p =
     rw (report-text b s (diagnosticsIn s) (λ ds. diagnostics-again s ds h) i) at (octet-then l f g at k r b s q p)
 
 -- three octets more are one diagnostic more
-report-more : (r : ℕ) (f : List Diagnostic → List Diagnostic) (o : Option (List Diagnostic)) → inRangeIn (Option·map (report r) o) ≡ inRangeIn (Option·map (report r) (Option·map f o))
-unfolding inRangeIn inRange
+report-more : (r : ℕ) (f : List Diagnostic → List Diagnostic) (o : Option (List Diagnostic)) → valueInRangeIn (Option·map (report r) o) ≡ valueInRangeIn (Option·map (report r) (Option·map f o))
+unfolding valueInRangeIn valueInRange
 report-more r f none = refl
 report-more r f (some ds) = refl
 
-pub threes : (r : ℕ) (s : List ℕ) → eqb (length s % 3) 0 ≡ inRangeIn (reportOf r s)
-unfolding diagnosticsIn inRangeIn inRange
+pub threes : (r : ℕ) (s : List ℕ) → eqb (length s % 3) 0 ≡ valueInRangeIn (reportOf r s)
+unfolding diagnosticsIn valueInRangeIn valueInRange
 threes r [] = refl
 threes r (i ∷ []) = refl
 threes r (i ∷ a ∷ []) = refl

@@ -11,41 +11,41 @@ use Rattle.octets.specs.Spans.{textOf}
 use Rattle.bat.specs.declared.Value.{Value as ValuePlace}
 use Rattle.bat.specs.declared.Value.the-variants.{Backbone, Address, Codecs as CodecsPlace, Report, Control, Unit as UnitPlace, Indicators}
 use Rattle.bat.specs.Values.{rightIndicators}
-use Rattle.bat.specs.Writing.{inRange}
+use Rattle.bat.specs.Writing.{valueInRange}
 use Rattle.bat.specs.Meaning.{valueBy}
-use Rattle.bat_write.specs.Texts.{codecsOf, reportOf, inRangeIn}
+use Rattle.bat_write.specs.Texts.{codecsOf, reportOf, valueInRangeIn}
 
 module _ (s : List ℕ) (v : ValuePlace) (b : Bool) where
-  pub ranged : (w : ValuePlace) → v ≡ w → b ≡ inRangeIn (valueBy s w) → b ≡ inRangeIn (valueBy s v)
+  pub ranged : (w : ValuePlace) → v ≡ w → b ≡ valueInRangeIn (valueBy s w) → b ≡ valueInRangeIn (valueBy s v)
   ranged w e r = rw e r
 
   module _ (p : Span) (t : List ℕ) (is : t ≡ textOf s p) where
-    pub ranged-backbone : v ≡ Backbone p → b ≡ (leb 1 (length t) && leb (length t) 4) → b ≡ inRangeIn (valueBy s v)
-    unfolding valueBy inRangeIn inRange
+    pub ranged-backbone : v ≡ Backbone p → b ≡ (leb 1 (length t) && leb (length t) 4) → b ≡ valueInRangeIn (valueBy s v)
+    unfolding valueBy valueInRangeIn valueInRange
     ranged-backbone e r = rw (e, ← is) r
 
-    pub ranged-address : v ≡ Address p → b ≡ (leb 1 (length t) && leb (length t) 20) → b ≡ inRangeIn (valueBy s v)
-    unfolding valueBy inRangeIn inRange
+    pub ranged-address : v ≡ Address p → b ≡ (leb 1 (length t) && leb (length t) 20) → b ≡ valueInRangeIn (valueBy s v)
+    unfolding valueBy valueInRangeIn valueInRange
     ranged-address e r = rw (e, ← is) r
 
-    pub ranged-codecs : v ≡ CodecsPlace p → b ≡ inRangeIn (codecsOf t) → b ≡ inRangeIn (valueBy s v)
+    pub ranged-codecs : v ≡ CodecsPlace p → b ≡ valueInRangeIn (codecsOf t) → b ≡ valueInRangeIn (valueBy s v)
     unfolding valueBy
     ranged-codecs e r = rw (e, ← is) r
 
-    pub ranged-report : (n : ℕ) → v ≡ Report n p → b ≡ inRangeIn (reportOf n t) → b ≡ inRangeIn (valueBy s v)
+    pub ranged-report : (n : ℕ) → v ≡ Report n p → b ≡ valueInRangeIn (reportOf n t) → b ≡ valueInRangeIn (valueBy s v)
     unfolding valueBy
     ranged-report n e r = rw (e, ← is) r
 
-    pub ranged-control : v ≡ Control p → b ≡ leb 1 (length t) → b ≡ inRangeIn (valueBy s v)
-    unfolding valueBy inRangeIn inRange
+    pub ranged-control : v ≡ Control p → b ≡ leb 1 (length t) → b ≡ valueInRangeIn (valueBy s v)
+    unfolding valueBy valueInRangeIn valueInRange
     ranged-control e r = rw (e, ← is) r
 
-    pub ranged-indicators : v ≡ Indicators p → b ≡ rightIndicators t → b ≡ inRangeIn (valueBy s v)
-    unfolding valueBy inRangeIn inRange
+    pub ranged-indicators : v ≡ Indicators p → b ≡ rightIndicators t → b ≡ valueInRangeIn (valueBy s v)
+    unfolding valueBy valueInRangeIn valueInRange
     ranged-indicators e r = rw (e, ← is) r
 
-    pub ranged-unit : (q : Span) (u : List ℕ) → u ≡ textOf s q → v ≡ UnitPlace p q → b ≡ (leb (length t) 255 && leb 1 (length u)) → b ≡ inRangeIn (valueBy s v)
-    unfolding valueBy inRangeIn inRange
+    pub ranged-unit : (q : Span) (u : List ℕ) → u ≡ textOf s q → v ≡ UnitPlace p q → b ≡ (leb (length t) 255 && leb 1 (length u)) → b ≡ valueInRangeIn (valueBy s v)
+    unfolding valueBy valueInRangeIn valueInRange
     ranged-unit q u o e r = rw (e, ← is, ← o) r
 
 pub ruleset ranging = (ranged, ranged-backbone, ranged-address, ranged-codecs, ranged-report, ranged-control, ranged-indicators, ranged-unit)

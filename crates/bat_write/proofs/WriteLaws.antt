@@ -18,10 +18,10 @@ use Rattle.octets.specs.declared.Put.{Put}
 use Rattle.octets.specs.declared.Put.the-variants.{Refused as RefusedPut}
 use Rattle.bat.specs.Values.{Diagnostic, Value, Codecs, allCodecs, offence, onCodecs, codecsIn, report, diagnosticsIn}
 use Rattle.octets.specs.Puts.{bounded, Puts}
-use Rattle.bat.specs.Writing.{elementText, identifierOf, valueText, octetsOf, octetsIn}
+use Rattle.bat.specs.Writing.{elementText, identifierOf, valueText, elementOctets, elementOctetsIn}
 use Rattle.bat.specs.Meaning.{valueBy}
 use Rattle.bat.specs.Framing.{mostOctets}
-use Rattle.bat_write.specs.Texts.{listOf, inRangeIn, contentsIn, codeOf}
+use Rattle.bat_write.specs.Texts.{listOf, valueInRangeIn, contentsIn, identifierIn}
 use Rattle.bat_write.proofs.PutLaws.{too-long}
 
 -- ---- the identifier
@@ -35,8 +35,8 @@ unfolding Option·elim identifierOf
 report-coded r none = refl
 report-coded r (some ds) = refl
 
-coded : (s : List ℕ) (v : ValuePlace) → Option·elim (valueBy s v) (codeOf v) identifierOf ≡ codeOf v
-unfolding valueBy codeOf Option·elim identifierOf
+coded : (s : List ℕ) (v : ValuePlace) → Option·elim (valueBy s v) (identifierIn v) identifierOf ≡ identifierIn v
+unfolding valueBy identifierIn Option·elim identifierOf
 coded s (Action n) = refl
 coded s (Backbone p) = refl
 coded s (Address p) = refl
@@ -54,13 +54,13 @@ coded s (SignalType n) = refl
 coded s (Duration n) = refl
 
 -- ---- the octets
-octets-right : (c i : ℕ) (o : Option Value) → inRangeIn o ≡ true → Option·elim o i identifierOf ≡ i → octetsIn c o ≡ bounded mostOctets (elementText i c (contentsIn o))
-unfolding inRangeIn contentsIn octetsIn octetsOf valueText bounded Option·elim
+octets-right : (c i : ℕ) (o : Option Value) → valueInRangeIn o ≡ true → Option·elim o i identifierOf ≡ i → elementOctetsIn c o ≡ bounded mostOctets (elementText i c (contentsIn o))
+unfolding valueInRangeIn contentsIn elementOctetsIn elementOctets valueText bounded Option·elim
 octets-right c i none p q = absurd (let z : _≡_ {A = ℕ} 0 1 = cc in omega arith)
 octets-right c i (some v) p q = rw (p, q)
 
-octets-wrong : (c : ℕ) (o : Option Value) → inRangeIn o ≡ false → octetsIn c o ≡ none
-unfolding inRangeIn octetsIn octetsOf
+octets-wrong : (c : ℕ) (o : Option Value) → valueInRangeIn o ≡ false → elementOctetsIn c o ≡ none
+unfolding valueInRangeIn elementOctetsIn elementOctets
 octets-wrong c none p = refl
 octets-wrong c (some v) p = rw p
 
@@ -71,13 +71,13 @@ bounded-cut i c s =
     (λ h. rw (take-all mostOctets s h))
     (λ h. too-long i c (take mostOctets s) s (simp length-take (omega arith)) ∙ sym (too-long i c s s (omega arith)))
 
-module _ (s l : List ℕ) (c : ℕ) (v : ValuePlace) (t : Bool) (is : t ≡ inRangeIn (valueBy s v)) where
-  pub writes-none : t ≡ false → Puts (octetsIn c (valueBy s v)) l (RefusedPut 5) l
+module _ (s l : List ℕ) (c : ℕ) (v : ValuePlace) (t : Bool) (is : t ≡ valueInRangeIn (valueBy s v)) where
+  pub writes-none : t ≡ false → Puts (elementOctetsIn c (valueBy s v)) l (RefusedPut 5) l
   writes-none e = rw (octets-wrong c (valueBy s v) (sym is ∙ e)) (puts-none l)
 
-  pub writes : (z g : List ℕ) (n i : ℕ) (r : Put) (f : List ℕ) → t ≡ true → Appends z 0 (contentsIn (valueBy s v)) n g → length z ≡ mostOctets → i ≡ codeOf v
-      → Puts (bounded mostOctets (elementText i c (take (n - 0) (drop 0 g)))) l r f → Puts (octetsIn c (valueBy s v)) l r f
+  pub writes : (z g : List ℕ) (n i : ℕ) (r : Put) (f : List ℕ) → t ≡ true → Appends z 0 (contentsIn (valueBy s v)) n g → length z ≡ mostOctets → i ≡ identifierIn v
+      → Puts (bounded mostOctets (elementText i c (take (n - 0) (drop 0 g)))) l r f → Puts (elementOctetsIn c (valueBy s v)) l r f
   writes z g n i r f e p h q a =
       let u = contentsIn (valueBy s v) in
-      let o : octetsIn c (valueBy s v) ≡ bounded mostOctets (elementText (codeOf v) c u) = octets-right c (codeOf v) (valueBy s v) (sym is ∙ e) (coded s v) in
+      let o : elementOctetsIn c (valueBy s v) ≡ bounded mostOctets (elementText (identifierIn v) c u) = octets-right c (identifierIn v) (valueBy s v) (sym is ∙ e) (coded s v) in
       rw (o, ← q, ← bounded-cut i c u, ← scratch-text z g u n p mostOctets h) a

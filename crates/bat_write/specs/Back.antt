@@ -6,7 +6,7 @@ use mathlib.Core.Option.{some}
 use lib.ListN.{length, drop}
 use Rattle.bat.specs.declared.Value.{Value as ValuePlace}
 use Rattle.bat.specs.Framing.{Element, whole, front, first}
-use Rattle.bat.specs.Values.{Value, decoded, reading, meant}
+use Rattle.bat.specs.Values.{Value, decoded, decoding, meant}
 use Rattle.bat.specs.Meaning.{valueIn}
 
 -- At the front of f, in n octets, stands an element that is decoded as the value that v stands for, with the compatibility bits of c.
@@ -17,4 +17,4 @@ pub record WrittenBack (s : List ℕ) (v : ValuePlace) (c n : ℕ) (f : List ℕ
   pub fronts : front f ≡ first element (drop n f)
   pub covers : length (whole element) ≡ n
   pub means : meant (element .compatibility) ≡ meant c
-  pub decodes : reading (element .identifier) (element .contents) ≡ decoded value
+  pub decodes : decoding (element .identifier) (element .contents) ≡ decoded value

@@ -9,7 +9,7 @@ use Rattle.bat.specs.declared.Value.{Value as ValuePlace}
 use Rattle.bat.specs.declared.Value.the-variants.{Action, Backbone, Address, Codecs as CodecsPlace, Single, Report, Characteristics, Control, Tunnelling, Unit as UnitPlace, Signal, Capability, Indicators, SignalType, Duration}
 use Rattle.bat.specs.Framing.{fold}
 use Rattle.bat.specs.Values.{Value, codecs, Codecs, codecsIn, onCodecs, report, diagnosticsIn, meant}
-use Rattle.bat.specs.Writing.{elementText, contentsText, inRange}
+use Rattle.bat.specs.Writing.{elementText, contentsText, valueInRange}
 
 -- ---- a value, where there is one
 -- the codec list, where there is no offence
@@ -24,31 +24,31 @@ codecsOf s = listOf (codecsIn s)
 abbrev pub reportOf : ℕ → List ℕ → Option Value
 reportOf r s = Option·map (report r) (diagnosticsIn s)
 
-unfoldable pub inRangeIn : Option Value → Bool
-inRangeIn none = false
-inRangeIn (some v) = inRange v
+unfoldable pub valueInRangeIn : Option Value → Bool
+valueInRangeIn none = false
+valueInRangeIn (some v) = valueInRange v
 
 unfoldable pub contentsIn : Option Value → List ℕ
 contentsIn none = []
 contentsIn (some v) = contentsText v
 
 -- the identifier of its element
-unfoldable pub codeOf : ValuePlace → ℕ
-codeOf (Action n) = 1
-codeOf (Backbone p) = 2
-codeOf (Address p) = 3
-codeOf (CodecsPlace p) = 4
-codeOf (Single c) = 5
-codeOf (Report r p) = 6
-codeOf (Characteristics n) = 7
-codeOf (Control p) = 8
-codeOf (Tunnelling b) = 9
-codeOf (UnitPlace n l) = 10
-codeOf (Signal k t) = 11
-codeOf (Capability b) = 12
-codeOf (Indicators p) = 13
-codeOf (SignalType n) = 14
-codeOf (Duration n) = 15
+unfoldable pub identifierIn : ValuePlace → ℕ
+identifierIn (Action n) = 1
+identifierIn (Backbone p) = 2
+identifierIn (Address p) = 3
+identifierIn (CodecsPlace p) = 4
+identifierIn (Single c) = 5
+identifierIn (Report r p) = 6
+identifierIn (Characteristics n) = 7
+identifierIn (Control p) = 8
+identifierIn (Tunnelling b) = 9
+identifierIn (UnitPlace n l) = 10
+identifierIn (Signal k t) = 11
+identifierIn (Capability b) = 12
+identifierIn (Indicators p) = 13
+identifierIn (SignalType n) = 14
+identifierIn (Duration n) = 15
 
 -- ---- its octets
 -- The elements of s, each written anew as a single codec: with the shortest length and one compatibility octet.

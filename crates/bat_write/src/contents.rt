@@ -6,14 +6,14 @@ ghost use Prim.Native.Nat.{_≤_};
 ghost use lib.ListN.{length};
 ghost use Rattle.octets.specs.Append.{Appends};
 ghost use Rattle.bat.specs.Values.{signal};
-ghost use Rattle.bat.specs.Writing.{wordText, bitText, codecText, lastingText, contentsText};
-ghost use Rattle.bat.specs.Meaning.{valueBy, codecIn, kindIn, lastingIn};
-ghost use Rattle.bat_write.specs.Texts.{reportOf, inRangeIn, contentsIn, codecsAnew};
+ghost use Rattle.bat.specs.Writing.{sixteenBitsText, bitText, codecText, innerDurationText, contentsText};
+ghost use Rattle.bat.specs.Meaning.{valueBy, singleCodecIn, innerTypeIn, innerDurationIn};
+ghost use Rattle.bat_write.specs.Texts.{reportOf, valueInRangeIn, contentsIn, codecsAnew};
 use crate::element::push_element;
-use bat::Codec;
+use bat::SingleCodec;
 use bat::Framed;
-use bat::Timed;
-use bat::Typed;
+use bat::InnerDuration;
+use bat::InnerType;
 use bat::Value;
 use octets::append::push;
 use octets::append::push_octet;
@@ -31,7 +31,7 @@ fn bit(b: bool) -> u8
 
 // Appends sixteen bits, most significant first.
 fn push_word(n: u16, out: &mut [u8], at: usize) -> usize
-    ensures { λ r. ⌜ Appends (now (out .entry)) at (wordText n) r (now (out .exit)) ⌝ }
+    ensures { λ r. ⌜ Appends (now (out .entry)) at (sixteenBitsText n) r (now (out .exit)) ⌝ }
 {
     let k = push_octet((n / 256) as u8, out, at);
     push_octet((n % 256) as u8, out, k)
@@ -64,8 +64,8 @@ fn push_codecs(s: &[u8], out: &mut [u8], at: usize) -> usize
 }
 
 // Appends a single codec.
-fn push_codec(c: Codec, source: &[u8], out: &mut [u8], at: usize) -> usize
-    ensures { λ r. ⌜ Appends (now (out .entry)) at (codecText (codecIn (now (source .entry)) c)) r (now (out .exit)) ⌝ }
+fn push_codec(c: SingleCodec, source: &[u8], out: &mut [u8], at: usize) -> usize
+    ensures { λ r. ⌜ Appends (now (out .entry)) at (codecText (singleCodecIn (now (source .entry)) c)) r (now (out .exit)) ⌝ }
 {
     let information = c.information;
     let k = push_octet(c.organisation, out, at);
@@ -74,7 +74,7 @@ fn push_codec(c: Codec, source: &[u8], out: &mut [u8], at: usize) -> usize
 
 // Appends a compatibility report whose diagnostics are s.
 fn push_report(reason: u8, s: &[u8], out: &mut [u8], at: usize) -> usize
-    requires { ⌜ inRangeIn (reportOf reason (now s)) ≡ true ⌝ }
+    requires { ⌜ valueInRangeIn (reportOf reason (now s)) ≡ true ⌝ }
     ensures { λ r. ⌜ Appends (now (out .entry)) at (contentsIn (reportOf reason (now (s .entry)))) r (now (out .exit)) ⌝ }
 {
     let k = push_octet(reason, out, at);
@@ -99,12 +99,12 @@ fn push_unit(network: &[u8], local: &[u8], out: &mut [u8], at: usize) -> usize
 }
 
 // Appends the duration of a signal.
-fn push_lasting(duration: Timed, out: &mut [u8], at: usize) -> usize
-    ensures { λ r. ⌜ Appends (now (out .entry)) at (lastingText (lastingIn duration)) r (now (out .exit)) ⌝ }
+fn push_lasting(duration: InnerDuration, out: &mut [u8], at: usize) -> usize
+    ensures { λ r. ⌜ Appends (now (out .entry)) at (innerDurationText (innerDurationIn duration)) r (now (out .exit)) ⌝ }
 {
     match duration {
-        Timed::Untimed => at,
-        Timed::Lasting {
+        InnerDuration::Untimed => at,
+        InnerDuration::Lasting {
             compatibility,
             duration,
         } => {
@@ -115,8 +115,8 @@ fn push_lasting(duration: Timed, out: &mut [u8], at: usize) -> usize
 }
 
 // Appends the type and the duration of a signal.
-fn push_signal(kind: Typed, duration: Timed, out: &mut [u8], at: usize) -> usize
-    ensures { λ r. ⌜ Appends (now (out .entry)) at (contentsText (signal (kindIn kind) (lastingIn duration))) r (now (out .exit)) ⌝ }
+fn push_signal(kind: InnerType, duration: InnerDuration, out: &mut [u8], at: usize) -> usize
+    ensures { λ r. ⌜ Appends (now (out .entry)) at (contentsText (signal (innerTypeIn kind) (innerDurationIn duration))) r (now (out .exit)) ⌝ }
 {
     let code = [kind.kind];
     let k = push_element(14, kind.compatibility, &code, out, at);
@@ -125,7 +125,7 @@ fn push_signal(kind: Typed, duration: Timed, out: &mut [u8], at: usize) -> usize
 
 // Appends the contents of the element of a value that is in range.
 pub(crate) fn push_contents(value: Value, source: &[u8], out: &mut [u8], at: usize) -> usize
-    requires { ⌜ inRangeIn (valueBy (now source) value) ≡ true ⌝ }
+    requires { ⌜ valueInRangeIn (valueBy (now source) value) ≡ true ⌝ }
     ensures { λ r. ⌜ Appends (now (out .entry)) at (contentsIn (valueBy (now (source .entry)) value)) r (now (out .exit)) ⌝ }
 {
     match value {

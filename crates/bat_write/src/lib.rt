@@ -7,9 +7,9 @@ ghost use mathlib.Core.Path.{_≡_};
 ghost use Rattle.bat.specs.Framing.{mostOctets};
 ghost use Rattle.bat.specs.Values.{meant};
 ghost use Rattle.octets.specs.Puts.{bounded, Puts};
-ghost use Rattle.bat.specs.Writing.{elementText, octetsIn};
+ghost use Rattle.bat.specs.Writing.{elementText, elementOctetsIn};
 ghost use Rattle.bat.specs.Meaning.{valueBy, valueIn};
-ghost use Rattle.bat_write.specs.Texts.{codeOf};
+ghost use Rattle.bat_write.specs.Texts.{identifierIn};
 use bat::MOST_OCTETS;
 use bat::Value;
 use octets::Put;
@@ -19,7 +19,7 @@ const MOST_CONTENTS: usize = MOST_OCTETS - 4;
 
 // The identifier of a value's element.
 fn identifier(value: Value) -> u8
-    ensures { λ r. ⌜ r ≡ codeOf value ⌝ }
+    ensures { λ r. ⌜ r ≡ identifierIn value ⌝ }
 {
     match value {
         Value::Action(_) => 1,
@@ -67,7 +67,7 @@ fn put_element(identifier: u8, compatibility: u8, contents: &[u8], out: &mut [u8
 
 // Writes the element of a value whose spans lie inside source.
 fn write_inside(value: Value, source: &[u8], compatibility: u8, out: &mut [u8]) -> Put
-    ensures { λ r. ⌜ Puts (octetsIn (meant compatibility) (valueBy (now (source .entry)) value)) (now (out .entry)) r (now (out .exit)) ⌝ }
+    ensures { λ r. ⌜ Puts (elementOctetsIn (meant compatibility) (valueBy (now (source .entry)) value)) (now (out .entry)) r (now (out .exit)) ⌝ }
 {
     if ranges::in_range(value, source) {
         let mut scratch = [0u8; MOST_OCTETS];
@@ -79,7 +79,7 @@ fn write_inside(value: Value, source: &[u8], compatibility: u8, out: &mut [u8]) 
 
 // Writes the element of a value whose spans are places in source, with the compatibility bits of this octet.
 pub fn write_element(value: Value, source: &[u8], compatibility: u8, out: &mut [u8]) -> Put
-    ensures { λ r. ⌜ Puts (octetsIn (meant compatibility) (valueIn (now (source .entry)) value)) (now (out .entry)) r (now (out .exit)) ⌝ }
+    ensures { λ r. ⌜ Puts (elementOctetsIn (meant compatibility) (valueIn (now (source .entry)) value)) (now (out .entry)) r (now (out .exit)) ⌝ }
 {
     if ranges::all_inside(value, source) {
         return write_inside(value, source, compatibility, out);

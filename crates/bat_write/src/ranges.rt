@@ -3,11 +3,11 @@ ghost use mathlib.Core.Path.{_≡_};
 ghost use mathlib.Core.Bool.{_&&_};
 ghost use lib.ListN.{length};
 ghost use lib.Dec.{leb};
-ghost use Rattle.bat.specs.Values.{rightCodec};
+ghost use Rattle.bat.specs.Values.{rightSingle};
 ghost use Rattle.octets.specs.Spans.{inside};
-ghost use Rattle.bat.specs.Meaning.{valueBy, codecIn, allInside};
-ghost use Rattle.bat_write.specs.Texts.{codecsOf, reportOf, inRangeIn};
-use bat::Codec;
+ghost use Rattle.bat.specs.Meaning.{valueBy, singleCodecIn, valueInside};
+ghost use Rattle.bat_write.specs.Texts.{codecsOf, reportOf, valueInRangeIn};
+use bat::SingleCodec;
 use bat::Value;
 use bat_read::Offence;
 use octets::Span;
@@ -16,7 +16,7 @@ use octets::spans::text;
 
 // s is one or more single codecs and nothing else.
 fn are_codecs(s: &[u8]) -> bool
-    ensures { λ r. ⌜ r ≡ inRangeIn (codecsOf (now (s .entry))) ⌝ }
+    ensures { λ r. ⌜ r ≡ valueInRangeIn (codecsOf (now (s .entry))) ⌝ }
 {
     if s.len() < 1 {
         return false;
@@ -29,8 +29,8 @@ fn are_codecs(s: &[u8]) -> bool
 }
 
 // c is a single codec.
-fn is_codec(c: Codec, source: &[u8]) -> bool
-    ensures { λ r. ⌜ r ≡ rightCodec (codecIn (now (source .entry)) c) ⌝ }
+fn is_codec(c: SingleCodec, source: &[u8]) -> bool
+    ensures { λ r. ⌜ r ≡ rightSingle (singleCodecIn (now (source .entry)) c) ⌝ }
 {
     let information = c.information;
     bat::ranges::right_codec(c.organisation, text(source, information))
@@ -38,7 +38,7 @@ fn is_codec(c: Codec, source: &[u8]) -> bool
 
 // s is diagnostics and nothing else; the reason may be any.
 fn are_diagnostics(reason: u8, s: &[u8]) -> bool
-    ensures { λ r. ⌜ r ≡ inRangeIn (reportOf reason (now (s .entry))) ⌝ }
+    ensures { λ r. ⌜ r ≡ valueInRangeIn (reportOf reason (now (s .entry))) ⌝ }
 {
     s.len() % 3 == 0
 }
@@ -55,7 +55,7 @@ fn are_unit(network: &[u8], local: &[u8]) -> bool
 
 // The value stands for one whose fields are in range.
 pub(crate) fn in_range(value: Value, source: &[u8]) -> bool
-    ensures { λ r. ⌜ r ≡ inRangeIn (valueBy (now (source .entry)) value) ⌝ }
+    ensures { λ r. ⌜ r ≡ valueInRangeIn (valueBy (now (source .entry)) value) ⌝ }
 {
     match value {
         Value::Action(n) => codes::is_action(n),
@@ -91,7 +91,7 @@ fn are_inside(s: &[u8], p: Span, q: Span) -> bool
 
 // The spans of the value lie inside source.
 pub(crate) fn all_inside(value: Value, source: &[u8]) -> bool
-    ensures { λ r. ⌜ r ≡ allInside (now (source .entry)) value ⌝ }
+    ensures { λ r. ⌜ r ≡ valueInside (now (source .entry)) value ⌝ }
 {
     match value {
         Value::Action(_) => true,

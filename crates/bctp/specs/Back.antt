@@ -6,10 +6,10 @@ use mathlib.Core.Option.{Option}
 use Rattle.address.specs.declared.Address.{Address}
 use Rattle.ipbcp.specs.Writing.{Content}
 use Rattle.ipbcp_write.specs.Back.{Said}
-use Rattle.bctp.specs.Packet.{message, opened}
+use Rattle.bctp.specs.Packet.{tunnelMessage, openedPacket}
 
 -- p is a packet whose message is read as the content o, with the own address
 pub record Carried (own : Address) (o : Option Content) (p : List ℕ) : Type 0 where
   pub text : List ℕ
-  pub opens : opened p ≡ message text
+  pub opens : openedPacket p ≡ tunnelMessage text
   pub says : Said own o text

@@ -7,26 +7,26 @@ use Rattle.octets.specs.declared.Put.{Put}
 use Rattle.octets.specs.declared.Put.the-variants.{Octets, Refused as RefusedPut}
 use Rattle.bctp.specs.declared.Packet.{Packet}
 use Rattle.bctp.specs.declared.Packet.the-variants as answer
-use Rattle.bctp.specs.Packet.{Opened, refused, notice, reply, message, withRoom, packetText}
+use Rattle.bctp.specs.Packet.{Opened, refused, tunnelNotice, tunnelReply, tunnelMessage, withRoom, packetText}
 
 -- document 01's number and values for each answer; p is the packet, and f the buffer after the call
 unfoldable pub openedIn : List ℕ → List ℕ → Packet → Opened
 openedIn p f (answer.Refused n) = refused n
-openedIn p f answer.Notice = notice
-openedIn p f answer.Reply = reply (take 2 f)
-openedIn p f answer.Message = message (drop 2 p)
+openedIn p f answer.Notice = tunnelNotice
+openedIn p f answer.Reply = tunnelReply (take 2 f)
+openedIn p f answer.Message = tunnelMessage (drop 2 p)
 
 -- what is left in the buffer l: a reply at its front, and else what was there
-unfoldable pub left : List ℕ → Opened → List ℕ
-left l (refused n) = l
-left l notice = l
-left l (reply t) = t ++ drop (length t) l
-left l (message m) = l
+unfoldable pub bufferAfter : List ℕ → Opened → List ℕ
+bufferAfter l (refused n) = l
+bufferAfter l tunnelNotice = l
+bufferAfter l (tunnelReply t) = t ++ drop (length t) l
+bufferAfter l (tunnelMessage m) = l
 
 -- Opening the packet p with the buffer l, where o is due, answers r and leaves f in the buffer.
 pub record Opens (p l : List ℕ) (o : Opened) (r : Packet) (f : List ℕ) : Type 0 where
   pub answers : openedIn p f r ≡ withRoom (length l) o
-  pub fills : f ≡ left l (withRoom (length l) o)
+  pub fills : f ≡ bufferAfter l (withRoom (length l) o)
 
 -- ---- for functions that are not public
 -- a writer's answer, where there is no room for the two octets in front of what it writes

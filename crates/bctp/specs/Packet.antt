@@ -41,32 +41,32 @@ pub data Opened : Type 0 where
   -- document 01's number
   refused : ℕ → Opened
   -- the peer found an error in what was sent: no reply
-  notice : Opened
+  tunnelNotice : Opened
   -- a packet to send back
-  reply : List ℕ → Opened
-  message : List ℕ → Opened
+  tunnelReply : List ℕ → Opened
+  tunnelMessage : List ℕ → Opened
 
 -- the octets a and b, then m; checks in document 01's order: 7, error bits, version, protocol
 unfoldable pub openedBy : ℕ → ℕ → List ℕ → Opened
 openedBy a b m =
     cond (rightFirst a && rightSecond b)
-    (cond (hasError a || hasError b) notice
+    (cond (hasError a || hasError b) tunnelNotice
     (cond (eqb (versionOf a) 0)
-    (cond (eqb (protocolOf b) ipbcp) (message m) (reply (versionIndicator 0 ∷ protocolIndicator 1 (protocolOf b) ∷ [])))
-    (reply (versionIndicator 1 ∷ protocolIndicator 0 (protocolOf b) ∷ []))))
+    (cond (eqb (protocolOf b) ipbcp) (tunnelMessage m) (tunnelReply (versionIndicator 0 ∷ protocolIndicator 1 (protocolOf b) ∷ [])))
+    (tunnelReply (versionIndicator 1 ∷ protocolIndicator 0 (protocolOf b) ∷ []))))
     (refused 7)
 
-unfoldable pub opened : List ℕ → Opened
-opened [] = refused 6
-opened (a ∷ []) = refused 6
-opened (a ∷ b ∷ m) = openedBy a b m
+unfoldable pub openedPacket : List ℕ → Opened
+openedPacket [] = refused 6
+openedPacket (a ∷ []) = refused 6
+openedPacket (a ∷ b ∷ m) = openedBy a b m
 
 -- 4 where a reply is due and the buffer has no room for it
 unfoldable pub withRoom : ℕ → Opened → Opened
 withRoom room (refused n) = refused n
-withRoom room notice = notice
-withRoom room (reply t) = cond (ltb room 2) (refused 4) (reply t)
-withRoom room (message m) = message m
+withRoom room tunnelNotice = tunnelNotice
+withRoom room (tunnelReply t) = cond (ltb room 2) (refused 4) (tunnelReply t)
+withRoom room (tunnelMessage m) = tunnelMessage m
 
 -- ---- writing a packet: no error, version 1, IPBCP, and the message
 unfoldable pub packetText : List ℕ → List ℕ

@@ -6,9 +6,9 @@ ghost use Prim.Native.Nat.{ℕ, _+_, _≤_};
 ghost use lib.ListN.{length, drop};
 ghost use mathlib.Core.Option.{Option·map};
 ghost use Rattle.octets.specs.Puts.{Puts};
-ghost use Rattle.ipbcp.specs.Writing.{octetsIn};
+ghost use Rattle.ipbcp.specs.Writing.{messageOctetsIn};
 ghost use Rattle.ipbcp.specs.Meaning.{contentIn};
-ghost use Rattle.bctp.specs.Packet.{rightFirst, rightSecond, hasError, reply, openedBy, opened, packetText};
+ghost use Rattle.bctp.specs.Packet.{rightFirst, rightSecond, hasError, tunnelReply, openedBy, openedPacket, packetText};
 ghost use Rattle.bctp.specs.Meaning.{Opens, withoutRoom, Indicated};
 use address::Address;
 use ipbcp::Body;
@@ -51,7 +51,7 @@ fn has_error(a: u8) -> bool
 
 // Puts a reply into out, where there is room for it.
 fn put_reply(a: u8, b: u8, out: &mut [u8]) -> Packet
-    ensures { λ r. ⌜ ((p : List ℕ) → Opens p (now (out .entry)) (reply (a ∷ b ∷ [])) r (now (out .exit))) ⌝ }
+    ensures { λ r. ⌜ ((p : List ℕ) → Opens p (now (out .entry)) (tunnelReply (a ∷ b ∷ [])) r (now (out .exit))) ⌝ }
 {
     if out.len() < 2 {
         return Packet::Refused(4);
@@ -86,7 +86,7 @@ fn open_by(a: u8, b: u8, packet: &[u8], out: &mut [u8]) -> Packet
 
 // Opens a packet. Where a reply is due it is put at the front of out.
 pub fn open(packet: &[u8], out: &mut [u8]) -> Packet
-    ensures { λ r. ⌜ Opens (now (packet .entry)) (now (out .entry)) (opened (now (packet .entry))) r (now (out .exit)) ⌝ }
+    ensures { λ r. ⌜ Opens (now (packet .entry)) (now (out .entry)) (openedPacket (now (packet .entry))) r (now (out .exit)) ⌝ }
 {
     if packet.len() < 2 {
         return Packet::Refused(6);
@@ -117,7 +117,7 @@ fn put_indicators(n: usize, out: &mut [u8]) -> Put
 // Writes a packet with the message of body. The message's writer is lent all of out behind the first two
 // octets, so what refuses the message refuses the packet.
 pub fn write_packet(body: Body, own: Address, source: &[u8], out: &mut [u8]) -> Put
-    ensures { λ r. ⌜ Puts (Option·map packetText (octetsIn own (contentIn (now (source .entry)) body))) (now (out .entry)) r (now (out .exit)) ⌝ }
+    ensures { λ r. ⌜ Puts (Option·map packetText (messageOctetsIn own (contentIn (now (source .entry)) body))) (now (out .entry)) r (now (out .exit)) ⌝ }
 {
     if out.len() < 2 {
         let end = out.len();

@@ -22,9 +22,9 @@ use Rattle.media.specs.Stream.{Stream}
 use Rattle.media.specs.Meaning.{textsBy, spansOf, streamBy, allIn, textsInside, streamInside, streamIn}
 use Rattle.ipbcp.specs.Reading.{mostRead}
 use Rattle.bearer.specs.Bearer.{Bearer}
-use Rattle.bearer.specs.Hearing.{unreadable, request, accepted, heard}
+use Rattle.bearer.specs.Hearing.{nothingHeard, requestHeard, acceptedHeard, heard}
 use Rattle.bearer.specs.Judging.{restated}
-use Rattle.bearer.specs.Meaning.{bearerBy, bearerInside, heldAs, placesAs}
+use Rattle.bearer.specs.Meaning.{bearerBy, bearerInside, bearerAs, placesAs}
 
 -- ---- what a stream stands for, if it lies inside
 module _ (m : List ℕ) (s : Places) (t : Stream) (h : streamIn m s ≡ some t) where
@@ -96,7 +96,7 @@ unfolding appended put
 appended-front l m h = rw (take-all (length l - 0) m (omega arith), zero-add (length m))
 
 pub held-names : (m : List ℕ) (a : Address) (s : Places) (t : Stream) → streamIn m s ≡ some t → length m ≤ mostRead
-    → bearerBy (heldAs a s m) ≡ record { address = a; stream = t }
+    → bearerBy (bearerAs a s m) ≡ record { address = a; stream = t }
 unfolding bearerBy
 held-names m a s t h k =
     let l : List ℕ = replicate mostRead 0 in
@@ -104,19 +104,19 @@ held-names m a s t h k =
     rw (appended-front l m (omega arith), stream-front m (drop (length m) l) s (streamIn-inside m s t h), ← streamIn-by m s t h)
 
 -- its texts lie inside its array
-pub held-inside : (m : List ℕ) (a : Address) (s : Places) (t : Stream) → streamIn m s ≡ some t → length m ≤ mostRead → bearerInside (heldAs a s m) ≡ true
+pub held-inside : (m : List ℕ) (a : Address) (s : Places) (t : Stream) → streamIn m s ≡ some t → length m ≤ mostRead → bearerInside (bearerAs a s m) ≡ true
 held-inside m a s t h k =
     let l : List ℕ = replicate mostRead 0 in
     let n : length l ≡ mostRead = length-replicate {A = ℕ} mostRead 0 in
     rw (appended-front l m (omega arith)) (stream-inside-front m (drop (length m) l) s (streamIn-inside m s t h))
 
 -- ---- messages that are heard are short
-short-or : (m : List ℕ) → (heard m ≡ unreadable → ⊥) → length m ≤ mostRead
+short-or : (m : List ℕ) → (heard m ≡ nothingHeard → ⊥) → length m ≤ mostRead
 unfolding heard
 short-or m h = by-le (length m) mostRead _ (λ k. k) (λ k. absurd (h (rw (lt-leb (length m) mostRead k))))
 
-pub heard-short : (m : List ℕ) (d : Bearer) → heard m ≡ request (some d) → length m ≤ mostRead
+pub heard-short : (m : List ℕ) (d : Bearer) → heard m ≡ requestHeard (some d) → length m ≤ mostRead
 heard-short m d e = short-or m (λ k. let z : _≡_ {A = ℕ} 0 1 = cc in omega arith)
 
-pub accepted-short : (m : List ℕ) (d : Bearer) → heard m ≡ accepted (some d) → length m ≤ mostRead
+pub accepted-short : (m : List ℕ) (d : Bearer) → heard m ≡ acceptedHeard (some d) → length m ≤ mostRead
 accepted-short m d e = short-or m (λ k. let z : _≡_ {A = ℕ} 0 1 = cc in omega arith)

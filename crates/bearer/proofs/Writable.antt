@@ -17,15 +17,15 @@ use Rattle.octets.proofs.CaseLaws.{by-eq, by-lt}
 use Rattle.sdp.specs.Lines.{isPlain, allPlain}
 use Rattle.address.specs.Kinds.{isUnicast}
 use Rattle.media.specs.Stream.{Stream, attributeText, rtpmapText, rtpmapLines, fmtpLines, octetsTogether, attributesFit, mostAttributes}
-use Rattle.ipbcp.specs.declared.Kind.{Kind}
+use Rattle.ipbcp.specs.declared.MessageType.{MessageType}
 use Rattle.ipbcp.specs.Reading.{described, readMessage}
-use Rattle.ipbcp.specs.Writing.{request, accepted, confused, rejected, messageText, isToken, allTextsPlain, rightMedia, rightAttributes, rightContent, octetsOf, voice}
+use Rattle.ipbcp.specs.Writing.{requestContent, acceptedContent, confusedContent, rejectedContent, messageText, isToken, allTextsPlain, rightMedia, rightAttributes, rightContent, messageOctets, voice}
 use Rattle.ipbcp.proofs.WrittenLaws.{media-parts, attribute-parts}
 use Rattle.ipbcp.proofs.Lengths.{number-few}
 use Rattle.ipbcp.proofs.ReadRange.{read-right, content-octets}
-use Rattle.configuration.specs.Configuration.{Codec, fixed, named, Configuration, between, allVisible, rightCodec, allRight, rightTimes, rightCodecs, rightGeneral, rightConfiguration, entryIn, suits, nameOf, namedIn, noneOrInRange, mostName}
+use Rattle.configuration.specs.Configuration.{Codec, fixed, named, Configuration, between, allVisible, rightCodec, allRight, rightTimes, rightCodecs, rightGeneral, rightConfiguration, entryIn, suits, nameOf, namedIn, ptimeNoneOrInRange, mostName}
 use Rattle.bearer.specs.Bearer.{Bearer}
-use Rattle.bearer.specs.Judging.{audio, rtpAvp, sameFamily, offered, commanded, unmoved, rightStream, rightRequest, nearest, restated, answerTo}
+use Rattle.bearer.specs.Judging.{audio, rtpAvp, sameFamily, offered, commanded, unmoved, rightStream, rightRequest, nearest, restated, acceptedFor}
 
 -- ---- codec entries
 visible-plain : (t : List ℕ) → allVisible t ≡ true → allPlain t ≡ true
@@ -111,8 +111,8 @@ module _ (c : Configuration) (h : rightConfiguration c ≡ true) where
       (λ k. rw (ne-eqb n 0 e, le-ltb n (c .least) l, le-ltb (c .most) n k) (omega arith))))
 
   -- one that a command names too
-  named-most : (n : ℕ) → noneOrInRange c n ≡ true → n ≤ 255
-  unfolding noneOrInRange
+  named-most : (n : ℕ) → ptimeNoneOrInRange c n ≡ true → n ≤ 255
+  unfolding ptimeNoneOrInRange
   named-most n e =
       let (least, most) = times in
       by-eq n 0 _ (λ z. omega arith)
@@ -120,16 +120,16 @@ module _ (c : Configuration) (h : rightConfiguration c ≡ true) where
       let l = leb-true n (c .most) (and-eq-true-iff (leb (c .least) n) (leb n (c .most)) .0 k .1) in omega arith)
 
   -- ---- Confused and Rejected
-  pub confused-octets : octetsOf (c .own) confused ≡ some (messageText (c .own) confused)
+  pub confused-octets : messageOctets (c .own) confusedContent ≡ some (messageText (c .own) confusedContent)
   unfolding rightContent voice
-  confused-octets = content-octets (c .own) confused own-unicast refl (omega arith)
+  confused-octets = content-octets (c .own) confusedContent own-unicast refl (omega arith)
 
-  pub rejected-octets : octetsOf (c .own) rejected ≡ some (messageText (c .own) rejected)
+  pub rejected-octets : messageOctets (c .own) rejectedContent ≡ some (messageText (c .own) rejectedContent)
   unfolding rightContent voice
-  rejected-octets = content-octets (c .own) rejected own-unicast refl (omega arith)
+  rejected-octets = content-octets (c .own) rejectedContent own-unicast refl (omega arith)
 
   -- ---- our Request
-  module _ (k : Codec) (payload ptime : ℕ) (right : rightCodec k ≡ true) (suit : suits k payload ≡ true) (time : noneOrInRange c ptime ≡ true) where
+  module _ (k : Codec) (payload ptime : ℕ) (right : rightCodec k ≡ true) (suit : suits k payload ≡ true) (time : ptimeNoneOrInRange c ptime ≡ true) where
     offered-media : rightMedia (offered c k payload ptime) ≡ true
     unfolding rightMedia offered isToken has allPlain isPlain
     offered-media =
@@ -150,39 +150,39 @@ module _ (c : Configuration) (h : rightConfiguration c ≡ true) where
         let fits = offered-fits in
         rw (name-right k right .0, le-leb ptime 255 (named-most ptime time)) fits
 
-    offered-octets : octetsOf (c .own) (request (offered c k payload ptime)) ≡ some (messageText (c .own) (request (offered c k payload ptime)))
+    offered-octets : messageOctets (c .own) (requestContent (offered c k payload ptime)) ≡ some (messageText (c .own) (requestContent (offered c k payload ptime)))
     unfolding rightContent voice offered
-    offered-octets = content-octets (c .own) (request (offered c k payload ptime)) own-unicast (rw (offered-media, offered-attributes)) (omega arith)
+    offered-octets = content-octets (c .own) (requestContent (offered c k payload ptime)) own-unicast (rw (offered-media, offered-attributes)) (omega arith)
 
-  pub commanded-octets : (entry payload ptime : ℕ) (q : Stream) → commanded c entry payload ptime ≡ some q → octetsOf (c .own) (request q) ≡ some (messageText (c .own) (request q))
+  pub commanded-octets : (entry payload ptime : ℕ) (q : Stream) → commanded c entry payload ptime ≡ some q → messageOctets (c .own) (requestContent q) ≡ some (messageText (c .own) (requestContent q))
   unfolding commanded Option·elim
   commanded-octets entry payload ptime q e = go (entryIn (c .codecs) entry) refl e
     where
-      picked : (k : Codec) (t : Bool) → (suits k payload && noneOrInRange c ptime) ≡ t → rightCodec k ≡ true
-          → cond t (some (offered c k payload ptime)) none ≡ some q → octetsOf (c .own) (request q) ≡ some (messageText (c .own) (request q))
+      picked : (k : Codec) (t : Bool) → (suits k payload && ptimeNoneOrInRange c ptime) ≡ t → rightCodec k ≡ true
+          → cond t (some (offered c k payload ptime)) none ≡ some q → messageOctets (c .own) (requestContent q) ≡ some (messageText (c .own) (requestContent q))
       picked k true p r e =
-          let (s, t) = and-eq-true-iff (suits k payload) (noneOrInRange c ptime) .0 p in
+          let (s, t) = and-eq-true-iff (suits k payload) (ptimeNoneOrInRange c ptime) .0 p in
           let same : offered c k payload ptime ≡ q = cc in
-          subst (λ (x : Stream). octetsOf (c .own) (request x) ≡ some (messageText (c .own) (request x))) same (offered-octets k payload ptime r s t)
+          subst (λ (x : Stream). messageOctets (c .own) (requestContent x) ≡ some (messageText (c .own) (requestContent x))) same (offered-octets k payload ptime r s t)
       picked k false p r e = absurd (Option·none-ne-some q e)
 
       go : (o : Option Codec) → entryIn (c .codecs) entry ≡ o
-          → Option·elim o none (λ k. cond (suits k payload && noneOrInRange c ptime) (some (offered c k payload ptime)) none) ≡ some q
-          → octetsOf (c .own) (request q) ≡ some (messageText (c .own) (request q))
+          → Option·elim o none (λ k. cond (suits k payload && ptimeNoneOrInRange c ptime) (some (offered c k payload ptime)) none) ≡ some q
+          → messageOctets (c .own) (requestContent q) ≡ some (messageText (c .own) (requestContent q))
       go none p e = absurd (Option·none-ne-some q e)
-      go (some k) p e = picked k (suits k payload && noneOrInRange c ptime) refl (entry-right (c .codecs) entry k codecs-right p) e
+      go (some k) p e = picked k (suits k payload && ptimeNoneOrInRange c ptime) refl (entry-right (c .codecs) entry k codecs-right p) e
 
   -- ---- our Accepted
   module _ (d : Bearer) (media : rightMedia (d .stream) ≡ true) (attributes : rightAttributes (d .stream) ≡ true) where
-    answer-media : rightMedia (answerTo c d) ≡ true
-    unfolding rightMedia answerTo restated
+    answer-media : rightMedia (acceptedFor c d) ≡ true
+    unfolding rightMedia acceptedFor restated
     answer-media =
         let (low, high) = own-port in
         let (m, _, _, t, p) = media-parts (d .stream) media in
         rw (m, le-leb 1 (c .port) low, le-leb (c .port) 65535 high, t, le-leb (d .stream .payload) 127 p)
 
-    answer-attributes : rightAttributes (answerTo c d) ≡ true
-    unfolding rightAttributes answerTo restated attributesFit rtpmapLines fmtpLines
+    answer-attributes : rightAttributes (acceptedFor c d) ≡ true
+    unfolding rightAttributes acceptedFor restated attributesFit rtpmapLines fmtpLines
     answer-attributes =
         let (r, f, p, _, l) = attribute-parts (d .stream) attributes in
         rw (r, le-leb (length (d .stream .fmtp)) 3 f, p, le-leb (nearest c (d .stream .ptime)) 255 (nearest-most (d .stream .ptime)))
@@ -201,9 +201,9 @@ module _ (c : Configuration) (h : rightConfiguration c ≡ true) where
       omega (arith, same-length audio (d .stream .media) m, same-length rtpAvp (d .stream .transport) t)
 
   -- the message m names d by a Request that is right
-  pub answered-octets : (m : List ℕ) (k : Kind) (f : Option Bearer) (d : Bearer) → readMessage m ≡ described k (d .address) (d .stream) → rightRequest c f d ≡ true
-      → octetsOf (c .own) (accepted (answerTo c d)) ≡ some (messageText (c .own) (accepted (answerTo c d)))
-  unfolding rightContent voice answerTo restated
+  pub answered-octets : (m : List ℕ) (k : MessageType) (f : Option Bearer) (d : Bearer) → readMessage m ≡ described k (d .address) (d .stream) → rightRequest c f d ≡ true
+      → messageOctets (c .own) (acceptedContent (acceptedFor c d)) ≡ some (messageText (c .own) (acceptedContent (acceptedFor c d)))
+  unfolding rightContent voice acceptedFor restated
   answered-octets m k f d e h =
       let (media, attributes) = read-right m k (d .address) (d .stream) e in
-      content-octets (c .own) (accepted (answerTo c d)) own-unicast (rw (answer-media d media attributes, answer-attributes d media attributes)) (request-short f d h)
+      content-octets (c .own) (acceptedContent (acceptedFor c d)) own-unicast (rw (answer-media d media attributes, answer-attributes d media attributes)) (request-short f d h)

@@ -6,7 +6,7 @@ use mathlib.Core.Bool.{cond}
 use mathlib.Core.Option.{Option, none, some}
 use lib.ListN.{length}
 use lib.Dec.{eqb, leb}
-use Rattle.ipbcp.specs.declared.Kind.the-variants as kind
+use Rattle.ipbcp.specs.declared.MessageType.the-variants as kind
 use Rattle.ipbcp.specs.declared.Head.{Head}
 use Rattle.ipbcp.specs.declared.Head.the-variants.{Typed, Untyped}
 use Rattle.ipbcp.specs.Types.{headIn}
@@ -15,15 +15,15 @@ use Rattle.bearer.specs.Bearer.{Bearer}
 
 pub data Heard : Type 0 where
   -- by 8 or 9 nothing that can be used
-  unreadable : Heard
+  nothingHeard : Heard
   -- a Request of another version
-  otherRequest : Heard
+  otherVersionHeard : Heard
   -- a Request of version 1, and the bearer that it names, if it can be read
-  request : Option Bearer → Heard
+  requestHeard : Option Bearer → Heard
   -- an Accepted, and the bearer that it names, if it is of version 1 and can be read
-  accepted : Option Bearer → Heard
+  acceptedHeard : Option Bearer → Heard
   -- a Rejected or a Confused, of any version
-  declined : Heard
+  declineHeard : Heard
 
 -- the bearer that a message names
 unfoldable pub bearerIn : Reading → Option Bearer
@@ -32,11 +32,11 @@ bearerIn (typed version k) = none
 bearerIn (described k a s) = some (record { address = a; stream = s })
 
 unfoldable pub heardBy : Head → Reading → Heard
-heardBy Untyped r = unreadable
-heardBy (Typed version kind.Request) r = cond (eqb version 1) (request (bearerIn r)) otherRequest
-heardBy (Typed version kind.Accepted) r = accepted (bearerIn r)
-heardBy (Typed version kind.Confused) r = declined
-heardBy (Typed version kind.Rejected) r = declined
+heardBy Untyped r = nothingHeard
+heardBy (Typed version kind.Request) r = cond (eqb version 1) (requestHeard (bearerIn r)) otherVersionHeard
+heardBy (Typed version kind.Accepted) r = acceptedHeard (bearerIn r)
+heardBy (Typed version kind.Confused) r = declineHeard
+heardBy (Typed version kind.Rejected) r = declineHeard
 
 unfoldable pub heard : List ℕ → Heard
-heard m = cond (leb (length m) mostRead) (heardBy (headIn m) (readMessage m)) unreadable
+heard m = cond (leb (length m) mostRead) (heardBy (headIn m) (readMessage m)) nothingHeard

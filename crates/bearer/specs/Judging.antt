@@ -5,19 +5,19 @@ use mathlib.Core.List.{List, [], _∷_}
 use mathlib.Core.Bool.{Bool, true, false, _&&_, cond}
 use mathlib.Core.Option.{Option, none, some, Option·elim}
 use lib.Dec.{eqb, ltb}
+use Rattle.octets.specs.Text.{ascii}
 use Rattle.octets.specs.Words.{same}
 use Rattle.address.specs.declared.Address.{Address}
 use Rattle.address.specs.declared.Address.the-variants.{V4, V6}
 use Rattle.media.specs.Stream.{Stream}
-use Rattle.configuration.specs.Configuration.{Codec, Configuration, entryIn, suits, nameOf, namedIn, noneOrInRange}
+use Rattle.configuration.specs.Configuration.{Codec, Configuration, entryIn, suits, nameOf, namedIn, ptimeNoneOrInRange}
 use Rattle.bearer.specs.Bearer.{Bearer}
 
--- "audio" and "RTP/AVP"
 abbrev pub audio : List ℕ
-audio = 97 ∷ 117 ∷ 100 ∷ 105 ∷ 111 ∷ []
+audio = ascii "audio"
 
 abbrev pub rtpAvp : List ℕ
-rtpAvp = 82 ∷ 84 ∷ 80 ∷ 47 ∷ 65 ∷ 86 ∷ 80 ∷ []
+rtpAvp = ascii "RTP/AVP"
 
 -- ---- addresses
 unfoldable pub sameFamily : Address → Address → Bool
@@ -49,7 +49,7 @@ offered c k payload ptime = record {
 unfoldable pub commanded : Configuration → ℕ → ℕ → ℕ → Option Stream
 commanded c entry payload ptime =
     Option·elim (entryIn (c .codecs) entry) none
-    (λ k. cond (suits k payload && noneOrInRange c ptime) (some (offered c k payload ptime)) none)
+    (λ k. cond (suits k payload && ptimeNoneOrInRange c ptime) (some (offered c k payload ptime)) none)
 
 -- ---- a peer's Request
 -- the peer's address and port are as in force, where a bearer is
@@ -86,8 +86,8 @@ unfoldable pub granted : Configuration → Bearer → Bearer
 granted c d = record { address = d .address; stream = restated (d .stream .port) (nearest c (d .stream .ptime)) (d .stream) }
 
 -- our Accepted for it, with own port
-unfoldable pub answerTo : Configuration → Bearer → Stream
-answerTo c d = restated (c .port) (nearest c (d .stream .ptime)) (d .stream)
+unfoldable pub acceptedFor : Configuration → Bearer → Stream
+acceptedFor c d = restated (c .port) (nearest c (d .stream .ptime)) (d .stream)
 
 -- ---- an Accepted for our Request q
 -- media, transport, payload and rtpmap as in the Request, where no rtpmap is an empty one
@@ -104,4 +104,4 @@ sameHost (some b) d = sameAddress (b .address) (d .address)
 unfoldable pub rightAccepted : Configuration → Option Bearer → Stream → Bearer → Bool
 rightAccepted c force q d =
     sameFamily (c .own) (d .address)
-    && (sameOffer q (d .stream) && (noneOrInRange c (d .stream .ptime) && sameHost force d))
+    && (sameOffer q (d .stream) && (ptimeNoneOrInRange c (d .stream .ptime) && sameHost force d))

@@ -1,6 +1,6 @@
 -- What the structs and enums of this crate stand for: their streams have their texts in the array beside them, those of a
 -- message in the message.
-use Prim.Native.Nat.{ℕ}
+use Prim.Native.Nat.{ℕ, _+_}
 use mathlib.Core.List.{List}
 use mathlib.Core.Bool.{Bool, true, false}
 use mathlib.Core.Option.{Option, none, some, Option·map}
@@ -11,47 +11,52 @@ use Rattle.media.specs.declared.Stream.{Stream as Places}
 use Rattle.media.specs.Stream.{Stream}
 use Rattle.media.specs.Meaning.{streamBy, streamInside, streamIn}
 use Rattle.ipbcp.specs.Reading.{mostRead}
+use Rattle.configuration.specs.Configuration.{mostName}
 use Rattle.bearer.specs.declared.Request.{Request}
-use Rattle.bearer.specs.declared.Bearer as held
-use Rattle.bearer.specs.declared.Heard as taken
-use Rattle.bearer.specs.declared.Heard.the-variants as is
+use Rattle.bearer.specs.declared.Bearer as code
+use Rattle.bearer.specs.declared.Heard as answer
+use Rattle.bearer.specs.declared.Heard.the-variants as answer
 use Rattle.bearer.specs.Bearer.{Bearer}
-use Rattle.bearer.specs.Hearing.{Heard, unreadable, otherRequest, request, accepted, declined}
+use Rattle.bearer.specs.Hearing.{Heard, nothingHeard, otherVersionHeard, requestHeard, acceptedHeard, declineHeard}
+
+-- room for the two words of a Request of ours and the name of a codec
+abbrev pub mostOffered : ℕ
+mostOffered = 12 + mostName
 
 unfoldable pub requestBy : Request → Stream
 requestBy q = streamBy (q .text) (q .stream)
 
-unfoldable pub bearerBy : held.Bearer → Bearer
+unfoldable pub bearerBy : code.Bearer → Bearer
 bearerBy b = record { address = b .address; stream = streamBy (b .text) (b .stream) }
 
 -- their texts lie inside the array beside them
 abbrev pub requestInside : Request → Bool
 requestInside q = streamInside (q .text) (q .stream)
 
-abbrev pub bearerInside : held.Bearer → Bool
+abbrev pub bearerInside : code.Bearer → Bool
 bearerInside b = streamInside (b .text) (b .stream)
 
 -- the bearer that a message names, whose texts are in the message
 unfoldable pub namedBy : List ℕ → Address → Places → Bearer
 namedBy m a s = record { address = a; stream = streamBy m s }
 
-unfoldable pub heardIn : List ℕ → taken.Heard → Option Heard
-heardIn m is.Unreadable = some unreadable
-heardIn m is.OtherRequest = some otherRequest
-heardIn m is.BadRequest = some (request none)
-heardIn m (is.Request a s) = Option·map (λ (t : Stream). request (some (record { address = a; stream = t }))) (streamIn m s)
-heardIn m is.BadAccepted = some (accepted none)
-heardIn m (is.Accepted a s) = Option·map (λ (t : Stream). accepted (some (record { address = a; stream = t }))) (streamIn m s)
-heardIn m is.Declined = some declined
+unfoldable pub heardIn : List ℕ → answer.Heard → Option Heard
+heardIn m answer.Unreadable = some nothingHeard
+heardIn m answer.OtherRequest = some otherVersionHeard
+heardIn m answer.BadRequest = some (requestHeard none)
+heardIn m (answer.Request a s) = Option·map (λ (t : Stream). requestHeard (some (record { address = a; stream = t }))) (streamIn m s)
+heardIn m answer.BadAccepted = some (acceptedHeard none)
+heardIn m (answer.Accepted a s) = Option·map (λ (t : Stream). acceptedHeard (some (record { address = a; stream = t }))) (streamIn m s)
+heardIn m answer.Declined = some declineHeard
 
 -- a bearer with the octets of m, as far as there is room, and zeros behind them
-abbrev pub heldAs : Address → Places → List ℕ → held.Bearer
-heldAs a s m = record { address = a; stream = s; text = appended (replicate mostRead 0) 0 m }
+abbrev pub bearerAs : Address → Places → List ℕ → code.Bearer
+bearerAs a s m = record { address = a; stream = s; text = appended (replicate mostRead 0) 0 m }
 
 -- the bearer in force, where one is
-abbrev pub heldIf : Bool → Bearer → Option Bearer
-heldIf true b = some b
-heldIf false b = none
+abbrev pub bearerIf : Bool → Bearer → Option Bearer
+bearerIf true b = some b
+bearerIf false b = none
 
 -- the places of a stream, with another port and packet time
 abbrev pub placesAs : ℕ → ℕ → Places → Places

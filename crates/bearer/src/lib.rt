@@ -1,7 +1,7 @@
 // What a set-up or a change is about: our open Request, and the bearer in force. Both hold a media line whose texts stand in an
 // array beside it.
 ghost use mathlib.Core.Path.{_≡_};
-ghost use Rattle.bearer.specs.Meaning.{heldAs, placesAs};
+ghost use Rattle.bearer.specs.Meaning.{bearerAs, placesAs};
 use address::Address;
 use configuration::MOST_NAME;
 use ipbcp::MOST_READ;
@@ -42,7 +42,7 @@ pub enum Heard {
 
 // The bearer that the message m names, whose stream has its texts in m.
 pub fn hold(address: Address, stream: Stream, m: &[u8]) -> Bearer
-    ensures { λ r. ⌜ r ≡ heldAs address stream (now (m .entry)) ⌝ }
+    ensures { λ r. ⌜ r ≡ bearerAs address stream (now (m .entry)) ⌝ }
 {
     let mut text = [0u8; MOST_READ];
     push(m, &mut text, 0);

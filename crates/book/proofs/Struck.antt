@@ -2,10 +2,10 @@
 use mathlib.Core.Path.{_≡_, refl, sym, _∙_, ap}
 use mathlib.Core.List.{List, [], _∷_, _++_, map, map-append, foldl, foldl-append, Sublistᴰ, Sublistᴰ·slnil, Sublistᴰ·cons, Sublistᴰ·cons-cons}
 use mathlib.Core.Option.{Option, none}
-use Rattle.book.specs.Book.{Book, idle, awaitSetup, up, awaitChange, Verdict, refused, discarded, opened, agreed, failed, released, confused, accepted, rejected}
-use Rattle.book.specs.Book.{settled, closed, moved, answered}
-use Rattle.book.specs.Strike.{Line, Log, Sheet, undropped, eventsOf, unattempted, keptAfter, beforeAfter, heldBy, lastSettled}
-use Rattle.book.specs.Strike.{lineOf, logged, logOf, marked, sheetOf, Laws, Struck}
+use Rattle.book.specs.Book.{Book, idle, awaitSetup, up, awaitChange, Verdict, refused, discarded, opened, agreed, failed, released, requestConfused, requestRight, requestWrong}
+use Rattle.book.specs.Book.{settled, closed, moved, replied}
+use Rattle.book.specs.Strike.{LogLine, Log, Sheet, undropped, eventsOf, unattempted, keptAfter, beforeAfter, inForceBy, lastSettled}
+use Rattle.book.specs.Strike.{logLine, logged, logOf, marked, sheetOf, Laws, Struck}
 
 module _ {A : Type 0} where
   part-more : {xs ys : List A} (l : A) → Sublistᴰ xs ys → Sublistᴰ xs (ys ++ (l ∷ []))
@@ -20,25 +20,25 @@ module _ {A : Type 0} where
 
 module _ {Bearer Request Event : Type 0} (rule : Book Bearer Request → Event → Verdict Bearer Request) where
   -- the events of the lines, given to a fresh endpoint, give the lines and leave the book k
-  abbrev Replays : List (Line Bearer Event) → Book Bearer Request → Type 0
+  abbrev Replays : List (LogLine Bearer Event) → Book Bearer Request → Type 0
   Replays ls k = logOf rule (eventsOf ls) ≡ record { book = k; lines = map undropped ls }
 
   -- the line of an event whose verdict is v
-  abbrev lineBy : Book Bearer Request → Event → Verdict Bearer Request → Line Bearer Event
-  lineBy k e v = record { event = e; reply = answered k v; bearer = settled (moved k v) }
+  abbrev lineBy : Book Bearer Request → Event → Verdict Bearer Request → LogLine Bearer Event
+  lineBy k e v = record { event = e; reply = replied k v; bearer = settled (moved k v) }
 
   -- one event more, whose line is l up to a change that it dropped
-  replays-more : (ls : List (Line Bearer Event)) (k : Book Bearer Request) (l : Line Bearer Event) (v : Verdict Bearer Request)
+  replays-more : (ls : List (LogLine Bearer Event)) (k : Book Bearer Request) (l : LogLine Bearer Event) (v : Verdict Bearer Request)
       → rule k (l .event) ≡ v → lineBy k (l .event) v ≡ undropped l → Replays ls k → Replays (ls ++ (l ∷ [])) (moved k v)
   unfolding logOf
   replays-more ls k l v e same r =
-      ap (λ es. logOf rule es) (map-append (λ (x : Line Bearer Event). x .event) ls (l ∷ []))
+      ap (λ es. logOf rule es) (map-append (λ (x : LogLine Bearer Event). x .event) ls (l ∷ []))
       ∙ foldl-append (logged rule) (record { book = idle; lines = [] }) (eventsOf ls) (l .event ∷ [])
       ∙ ap (λ (g : Log Bearer Request Event). logged rule g (l .event)) r
       ∙ rw (e, same, map-append) refl
 
   -- what holds of the lines of a book with no open Request holds with the open attempt struck
-  struck-same : (k : Book Bearer Request) (before kept kept′ : List (Line Bearer Event))
+  struck-same : (k : Book Bearer Request) (before kept kept′ : List (LogLine Bearer Event))
       → Replays kept′ k → Replays (unattempted k before kept) (closed k) → Replays (unattempted k before kept′) (closed k)
   struck-same idle before kept kept′ r t = r
   struck-same (awaitSetup q) before kept kept′ r t = t
@@ -46,7 +46,7 @@ module _ {Bearer Request Event : Type 0} (rule : Book Bearer Request → Event �
   struck-same (awaitChange s b q) before kept kept′ r t = t
 
   -- once closed, nothing more is struck
-  closed-same : (k : Book Bearer Request) (before before′ kept : List (Line Bearer Event))
+  closed-same : (k : Book Bearer Request) (before before′ kept : List (LogLine Bearer Event))
       → Replays (unattempted k before kept) (closed k) → Replays (unattempted (closed k) before′ (unattempted k before kept)) (closed (closed k))
   closed-same idle before before′ kept r = r
   closed-same (awaitSetup q) before before′ kept r = r
@@ -55,10 +55,10 @@ module _ {Bearer Request Event : Type 0} (rule : Book Bearer Request → Event �
 
   module _ {exchanged : Event → Option Bearer} (laws : Laws rule exchanged) where
     -- the lines that are left replay, and so do those that would be left with the open attempt struck
-    abbrev Holds : Book Bearer Request → List (Line Bearer Event) → List (Line Bearer Event) → Type 0
+    abbrev Holds : Book Bearer Request → List (LogLine Bearer Event) → List (LogLine Bearer Event) → Type 0
     Holds k before kept = Replays kept k × Replays (unattempted k before kept) (closed k)
 
-    holds-more : (k : Book Bearer Request) (before kept : List (Line Bearer Event)) (e : Event) (v : Verdict Bearer Request) → rule k e ≡ v
+    holds-more : (k : Book Bearer Request) (before kept : List (LogLine Bearer Event)) (e : Event) (v : Verdict Bearer Request) → rule k e ≡ v
         → Holds k before kept → Holds (moved k v) (beforeAfter before kept v) (keptAfter k before kept (lineBy k e v) v)
     holds-more k before kept e (refused n) h (r, t) =
         let r′ = replays-more kept k (lineBy k e (refused n)) (refused n) h refl r in
@@ -87,19 +87,19 @@ module _ {Bearer Request Event : Type 0} (rule : Book Bearer Request → Event �
         let r′ = replays-more kept (up s b) (lineBy (up s b) e released) released h refl r in (r′, r′)
     holds-more (awaitChange s b p) before kept e released h (r, t) =
         let r′ = replays-more before (up s b) (lineBy (awaitChange s b p) e released) released (laws .released-change s b p e h) refl t in (r′, r′)
-    holds-more k before kept e (confused o) h (r, t) = (r, t)
-    holds-more idle before kept e (accepted b o) h (r, t) =
-        let r′ = replays-more kept idle (lineBy idle e (accepted b o)) (accepted b o) h refl r in (r′, r′)
-    holds-more (awaitSetup p) before kept e (accepted b o) h (r, t) = absurd (laws .accepted-setup p e b o h)
-    holds-more (up s a) before kept e (accepted b o) h (r, t) =
-        let r′ = replays-more kept (up s a) (lineBy (up s a) e (accepted b o)) (accepted b o) h refl r in (r′, r′)
-    holds-more (awaitChange s a p) before kept e (accepted b o) h (r, t) =
-        let r′ = replays-more before (up s a) (lineBy (awaitChange s a p) e (accepted b o)) (accepted b o) (laws .accepted-change s a p e b o h) refl t in (r′, r′)
-    holds-more k before kept e (rejected o) h (r, t) = (t, closed-same k before before kept t)
+    holds-more k before kept e (requestConfused o) h (r, t) = (r, t)
+    holds-more idle before kept e (requestRight b o) h (r, t) =
+        let r′ = replays-more kept idle (lineBy idle e (requestRight b o)) (requestRight b o) h refl r in (r′, r′)
+    holds-more (awaitSetup p) before kept e (requestRight b o) h (r, t) = absurd (laws .accepted-setup p e b o h)
+    holds-more (up s a) before kept e (requestRight b o) h (r, t) =
+        let r′ = replays-more kept (up s a) (lineBy (up s a) e (requestRight b o)) (requestRight b o) h refl r in (r′, r′)
+    holds-more (awaitChange s a p) before kept e (requestRight b o) h (r, t) =
+        let r′ = replays-more before (up s a) (lineBy (awaitChange s a p) e (requestRight b o)) (requestRight b o) (laws .accepted-change s a p e b o h) refl t in (r′, r′)
+    holds-more k before kept e (requestWrong o) h (r, t) = (t, closed-same k before before kept t)
 
     -- the bearer in force after an event, by what it was answered
     pub held-more : (k : Book Bearer Request) (e : Event) (v : Verdict Bearer Request) → rule k e ≡ v
-        → settled (moved k v) ≡ heldBy (answered k v) (settled k) (exchanged e)
+        → settled (moved k v) ≡ inForceBy (replied k v) (settled k) (exchanged e)
     held-more k e (refused n) h = refl
     held-more k e discarded h = refl
     held-more idle e (opened q o) h = refl
@@ -115,27 +115,27 @@ module _ {Bearer Request Event : Type 0} (rule : Book Bearer Request → Event �
     held-more (up s a) e failed h = refl
     held-more (awaitChange s a p) e failed h = refl
     held-more k e released h = refl
-    held-more k e (confused o) h = refl
-    held-more idle e (accepted b o) h = sym (laws .accepted-names idle e b o h)
-    held-more (awaitSetup p) e (accepted b o) h = sym (laws .accepted-names (awaitSetup p) e b o h)
-    held-more (up s a) e (accepted b o) h = sym (laws .accepted-names (up s a) e b o h)
-    held-more (awaitChange s a p) e (accepted b o) h = sym (laws .accepted-names (awaitChange s a p) e b o h)
-    held-more idle e (rejected o) h = refl
-    held-more (awaitSetup p) e (rejected o) h = refl
-    held-more (up s a) e (rejected o) h = refl
-    held-more (awaitChange s a p) e (rejected o) h = refl
+    held-more k e (requestConfused o) h = refl
+    held-more idle e (requestRight b o) h = sym (laws .accepted-names idle e b o h)
+    held-more (awaitSetup p) e (requestRight b o) h = sym (laws .accepted-names (awaitSetup p) e b o h)
+    held-more (up s a) e (requestRight b o) h = sym (laws .accepted-names (up s a) e b o h)
+    held-more (awaitChange s a p) e (requestRight b o) h = sym (laws .accepted-names (awaitChange s a p) e b o h)
+    held-more idle e (requestWrong o) h = refl
+    held-more (awaitSetup p) e (requestWrong o) h = refl
+    held-more (up s a) e (requestWrong o) h = refl
+    held-more (awaitChange s a p) e (requestWrong o) h = refl
 
     -- both the lines that are left and those before the open attempt are lines of the run
-    abbrev Parts : List (Line Bearer Event) → List (Line Bearer Event) → List (Line Bearer Event) → Type 0
+    abbrev Parts : List (LogLine Bearer Event) → List (LogLine Bearer Event) → List (LogLine Bearer Event) → Type 0
     Parts before kept lines = Sublistᴰ before lines × Sublistᴰ kept lines
 
-    part-struck : (k : Book Bearer Request) (before kept lines : List (Line Bearer Event)) → Parts before kept lines → Sublistᴰ (unattempted k before kept) lines
+    part-struck : (k : Book Bearer Request) (before kept lines : List (LogLine Bearer Event)) → Parts before kept lines → Sublistᴰ (unattempted k before kept) lines
     part-struck idle before kept lines (x, y) = y
     part-struck (awaitSetup q) before kept lines (x, y) = x
     part-struck (up s b) before kept lines (x, y) = y
     part-struck (awaitChange s b q) before kept lines (x, y) = x
 
-    parts-more : (k : Book Bearer Request) (before kept lines : List (Line Bearer Event)) (l : Line Bearer Event) (v : Verdict Bearer Request)
+    parts-more : (k : Book Bearer Request) (before kept lines : List (LogLine Bearer Event)) (l : LogLine Bearer Event) (v : Verdict Bearer Request)
         → Parts before kept lines → Parts (beforeAfter before kept v) (keptAfter k before kept l v) (lines ++ (l ∷ []))
     parts-more k before kept lines l (refused n) (x, y) = (part-more l x, part-both l y)
     parts-more k before kept lines l discarded (x, y) = (part-more l x, part-both l y)
@@ -146,9 +146,9 @@ module _ {Bearer Request Event : Type 0} (rule : Book Bearer Request → Event �
     parts-more (awaitSetup q) before kept lines l released (x, y) = (part-more l x, part-more l x)
     parts-more (up s b) before kept lines l released (x, y) = (part-more l x, part-both l y)
     parts-more (awaitChange s b q) before kept lines l released (x, y) = (part-more l x, part-both l x)
-    parts-more k before kept lines l (confused o) (x, y) = (part-more l x, part-more l y)
-    parts-more k before kept lines l (accepted b o) (x, y) = (part-more l x, part-both l (part-struck k before kept lines (x, y)))
-    parts-more k before kept lines l (rejected o) (x, y) = (part-more l x, part-more l (part-struck k before kept lines (x, y)))
+    parts-more k before kept lines l (requestConfused o) (x, y) = (part-more l x, part-more l y)
+    parts-more k before kept lines l (requestRight b o) (x, y) = (part-more l x, part-both l (part-struck k before kept lines (x, y)))
+    parts-more k before kept lines l (requestWrong o) (x, y) = (part-more l x, part-more l (part-struck k before kept lines (x, y)))
 
     -- what holds of a sheet and a log of the same events
     record Agree (s : Sheet Bearer Request Event) (g : Log Bearer Request Event) : Type 0 where
@@ -157,15 +157,15 @@ module _ {Bearer Request Event : Type 0} (rule : Book Bearer Request → Event �
       part : Sublistᴰ (s .kept) (g .lines)
       in-force : settled (g .book) ≡ lastSettled exchanged (g .lines)
 
-    agree : (es : List Event) (k : Book Bearer Request) (before kept lines : List (Line Bearer Event))
+    agree : (es : List Event) (k : Book Bearer Request) (before kept lines : List (LogLine Bearer Event))
         → Holds k before kept → Parts before kept lines → settled k ≡ lastSettled exchanged lines
         → Agree (foldl (marked rule) (record { book = k; kept = kept; before = before }) es) (foldl (logged rule) (record { book = k; lines = lines }) es)
     agree [] k before kept lines h p f = record { book = refl; holds = h .0; part = p .1; in-force = f }
     agree (e ∷ es) k before kept lines h p f =
-        agree es _ _ _ _ (holds-more k before kept e (rule k e) refl h) (parts-more k before kept lines (lineOf rule k e) (rule k e) p)
+        agree es _ _ _ _ (holds-more k before kept e (rule k e) refl h) (parts-more k before kept lines (logLine rule k e) (rule k e) p)
         (held-more k e (rule k e) refl
-        ∙ ap (λ (was : Option Bearer). heldBy (answered k (rule k e)) was (exchanged e)) f
-        ∙ sym (foldl-append (λ (was : Option Bearer) (l : Line Bearer Event). heldBy (l .reply) was (exchanged (l .event))) none lines (lineOf rule k e ∷ [])))
+        ∙ ap (λ (was : Option Bearer). inForceBy (replied k (rule k e)) was (exchanged e)) f
+        ∙ sym (foldl-append (λ (was : Option Bearer) (l : LogLine Bearer Event). inForceBy (l .reply) was (exchanged (l .event))) none lines (logLine rule k e ∷ [])))
 
     pub struck : (es : List Event) → Struck rule exchanged es
     unfolding logOf sheetOf

@@ -34,17 +34,17 @@ pub data Verdict (Bearer Request : Type 0) : Type 0 where
   failed : Verdict Bearer Request
   released : Verdict Bearer Request
   -- a Request of another version, and the Confused written
-  confused : List ℕ → Verdict Bearer Request
+  requestConfused : List ℕ → Verdict Bearer Request
   -- a Request judged right, the bearer that it settles and the Accepted written
-  accepted : Bearer → List ℕ → Verdict Bearer Request
+  requestRight : Bearer → List ℕ → Verdict Bearer Request
   -- a Request judged wrong, and the Rejected written
-  rejected : List ℕ → Verdict Bearer Request
+  requestWrong : List ℕ → Verdict Bearer Request
 
 -- what an event is answered: a refusal's number and nothing else; or the state after it, the notice, the octets written
 -- and whether it dropped our own change
-pub data Answer : Type 0 where
-  refusal : ℕ → Answer
-  answer : State → Notice → List ℕ → Bool → Answer
+pub data Reply : Type 0 where
+  refusal : ℕ → Reply
+  done : State → Notice → List ℕ → Bool → Reply
 
 module _ {Bearer Request : Type 0} where
   abbrev pub stateOf : Book Bearer Request → State
@@ -104,9 +104,9 @@ module _ {Bearer Request : Type 0} where
   moved k (agreed b) = settling b k
   moved k failed = closed k
   moved k released = idle
-  moved k (confused o) = k
-  moved k (accepted b o) = settling b k
-  moved k (rejected o) = closed k
+  moved k (requestConfused o) = k
+  moved k (requestRight b o) = settling b k
+  moved k (requestWrong o) = closed k
 
   -- the first where no bearer is in force, the second where one is
   abbrev pub byBearer : {A : Type 0} → Book Bearer Request → A → A → A
@@ -123,13 +123,13 @@ module _ {Bearer Request : Type 0} where
   drops (awaitChange s b q) = true
 
   -- what an event is answered that finds the book k and is given the verdict
-  abbrev pub answered : Book Bearer Request → Verdict Bearer Request → Answer
-  answered k (refused n) = refusal n
-  answered k discarded = answer (stateOf k) Notice.Discarded [] false
-  answered k (opened q o) = answer (stateOf (opening q k)) Notice.None o false
-  answered k (agreed b) = answer Up (byBearer k Notice.Up Notice.Changed) [] false
-  answered k failed = answer (stateOf (closed k)) (byBearer k Notice.SetupFailed Notice.ChangeFailed) [] false
-  answered k released = answer Idle Notice.Released [] false
-  answered k (confused o) = answer (stateOf k) Notice.Confused o false
-  answered k (accepted b o) = answer Up (byBearer k Notice.Up Notice.Changed) o (drops k)
-  answered k (rejected o) = answer (stateOf (closed k)) Notice.Rejected o (drops k)
+  abbrev pub replied : Book Bearer Request → Verdict Bearer Request → Reply
+  replied k (refused n) = refusal n
+  replied k discarded = done (stateOf k) Notice.Discarded [] false
+  replied k (opened q o) = done (stateOf (opening q k)) Notice.None o false
+  replied k (agreed b) = done Up (byBearer k Notice.Up Notice.Changed) [] false
+  replied k failed = done (stateOf (closed k)) (byBearer k Notice.SetupFailed Notice.ChangeFailed) [] false
+  replied k released = done Idle Notice.Released [] false
+  replied k (requestConfused o) = done (stateOf k) Notice.Confused o false
+  replied k (requestRight b o) = done Up (byBearer k Notice.Up Notice.Changed) o (drops k)
+  replied k (requestWrong o) = done (stateOf (closed k)) Notice.Rejected o (drops k)

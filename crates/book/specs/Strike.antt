@@ -8,66 +8,66 @@ use mathlib.Core.Option.{Option, none, some}
 use Rattle.book.specs.declared.Side.{Side}
 use Rattle.book.specs.declared.Notice.{Notice}
 use Rattle.book.specs.declared.Notice.the-variants.{None, Up, Changed, Released, SetupFailed, ChangeFailed, Rejected, Confused, Discarded}
-use Rattle.book.specs.Book.{Book, idle, awaitSetup, up, awaitChange, Verdict, refused, discarded, opened, agreed, failed, released, confused, accepted, rejected}
-use Rattle.book.specs.Book.{Answer, refusal, answer, settled, moved, answered, byBearer}
+use Rattle.book.specs.Book.{Book, idle, awaitSetup, up, awaitChange, Verdict, refused, discarded, opened, agreed, failed, released, requestConfused, requestRight, requestWrong}
+use Rattle.book.specs.Book.{Reply, refusal, done, settled, moved, replied, byBearer}
 
 -- an event, what it was answered, and the bearer in force after it
-pub record Line (Bearer Event : Type 0) : Type 0 where
+pub record LogLine (Bearer Event : Type 0) : Type 0 where
   pub event : Event
-  pub reply : Answer
+  pub reply : Reply
   pub bearer : Option Bearer
 
-abbrev pub Lines : Type 0 → Type 0 → Type 0
-Lines Bearer Event = List (Line Bearer Event)
+abbrev pub LogLines : Type 0 → Type 0 → Type 0
+LogLines Bearer Event = List (LogLine Bearer Event)
 
 -- the book, and the lines of the events so far
 pub record Log (Bearer Request Event : Type 0) : Type 0 where
   pub book : Book Bearer Request
-  pub lines : Lines Bearer Event
+  pub lines : LogLines Bearer Event
 
 -- the log with failed attempts struck: the lines that are left, and those that were left when the open Request's command came
 pub record Sheet (Bearer Request Event : Type 0) : Type 0 where
   pub book : Book Bearer Request
-  pub kept : Lines Bearer Event
-  pub before : Lines Bearer Event
+  pub kept : LogLines Bearer Event
+  pub before : LogLines Bearer Event
 
 -- the same answer, with no change of ours dropped
-abbrev pub undroppedReply : Answer → Answer
+abbrev pub undroppedReply : Reply → Reply
 undroppedReply (refusal n) = refusal n
-undroppedReply (answer s n o d) = answer s n o false
+undroppedReply (done s n o d) = done s n o false
 
 module _ {Bearer : Type 0} where
   -- the bearer in force after a notice: that of the exchange, none after a release, else the one that was
-  abbrev pub held : Notice → Option Bearer → Option Bearer → Option Bearer
-  held None was new = was
-  held Up was new = new
-  held Changed was new = new
-  held Released was new = none
-  held SetupFailed was new = was
-  held ChangeFailed was new = was
-  held Rejected was new = was
-  held Confused was new = was
-  held Discarded was new = was
+  abbrev pub inForceAfter : Notice → Option Bearer → Option Bearer → Option Bearer
+  inForceAfter None was new = was
+  inForceAfter Up was new = new
+  inForceAfter Changed was new = new
+  inForceAfter Released was new = none
+  inForceAfter SetupFailed was new = was
+  inForceAfter ChangeFailed was new = was
+  inForceAfter Rejected was new = was
+  inForceAfter Confused was new = was
+  inForceAfter Discarded was new = was
 
   -- the same after an answer; a refusal leaves what was
-  abbrev pub heldBy : Answer → Option Bearer → Option Bearer → Option Bearer
-  heldBy (refusal n) was new = was
-  heldBy (answer s n o d) was new = held n was new
+  abbrev pub inForceBy : Reply → Option Bearer → Option Bearer → Option Bearer
+  inForceBy (refusal n) was new = was
+  inForceBy (done s n o d) was new = inForceAfter n was new
 
 module _ {Bearer Event : Type 0} where
-  abbrev pub undropped : Line Bearer Event → Line Bearer Event
+  abbrev pub undropped : LogLine Bearer Event → LogLine Bearer Event
   undropped l = record { event = l .event; reply = undroppedReply (l .reply); bearer = l .bearer }
 
-  abbrev pub eventsOf : Lines Bearer Event → List Event
+  abbrev pub eventsOf : LogLines Bearer Event → List Event
   eventsOf ls = map (λ l. l .event) ls
 
   -- the bearer of the last successful exchange since the last release that was not refused
-  abbrev pub lastSettled : (Event → Option Bearer) → Lines Bearer Event → Option Bearer
-  lastSettled exchanged ls = foldl {B = Option Bearer} (λ was l. heldBy (l .reply) was (exchanged (l .event))) none ls
+  abbrev pub lastSettled : (Event → Option Bearer) → LogLines Bearer Event → Option Bearer
+  lastSettled exchanged ls = foldl {B = Option Bearer} (λ was l. inForceBy (l .reply) was (exchanged (l .event))) none ls
 
 module _ {Bearer Request Event : Type 0} where
   -- the lines that are left when the open attempt is struck: its command and all after it
-  abbrev pub unattempted : Book Bearer Request → Lines Bearer Event → Lines Bearer Event → Lines Bearer Event
+  abbrev pub unattempted : Book Bearer Request → LogLines Bearer Event → LogLines Bearer Event → LogLines Bearer Event
   unattempted idle before kept = kept
   unattempted (awaitSetup q) before kept = before
   unattempted (up s b) before kept = kept
@@ -78,35 +78,35 @@ module _ {Bearer Request Event : Type 0} where
   -- commands and a right Accepted stay. What ends an attempt strikes it and goes with it. A release strikes the open attempt; it
   -- goes with a set-up and stays after a change. A Request answered Confused goes alone. One that is judged strikes an open
   -- change, and stays if it is right.
-  abbrev pub keptAfter : Book Bearer Request → Lines Bearer Event → Lines Bearer Event → Line Bearer Event → Verdict Bearer Request → Lines Bearer Event
+  abbrev pub keptAfter : Book Bearer Request → LogLines Bearer Event → LogLines Bearer Event → LogLine Bearer Event → Verdict Bearer Request → LogLines Bearer Event
   keptAfter k before kept l (refused n) = kept ++ (l ∷ [])
   keptAfter k before kept l discarded = kept ++ (l ∷ [])
   keptAfter k before kept l (opened q o) = kept ++ (l ∷ [])
   keptAfter k before kept l (agreed b) = kept ++ (l ∷ [])
   keptAfter k before kept l failed = unattempted k before kept
   keptAfter k before kept l released = byBearer k (unattempted k before kept) (unattempted k before kept ++ (l ∷ []))
-  keptAfter k before kept l (confused o) = kept
-  keptAfter k before kept l (accepted b o) = unattempted k before kept ++ (l ∷ [])
-  keptAfter k before kept l (rejected o) = unattempted k before kept
+  keptAfter k before kept l (requestConfused o) = kept
+  keptAfter k before kept l (requestRight b o) = unattempted k before kept ++ (l ∷ [])
+  keptAfter k before kept l (requestWrong o) = unattempted k before kept
 
   -- a command notes what stands before it
-  abbrev pub beforeAfter : Lines Bearer Event → Lines Bearer Event → Verdict Bearer Request → Lines Bearer Event
+  abbrev pub beforeAfter : LogLines Bearer Event → LogLines Bearer Event → Verdict Bearer Request → LogLines Bearer Event
   beforeAfter before kept (refused n) = before
   beforeAfter before kept discarded = before
   beforeAfter before kept (opened q o) = kept
   beforeAfter before kept (agreed b) = before
   beforeAfter before kept failed = before
   beforeAfter before kept released = before
-  beforeAfter before kept (confused o) = before
-  beforeAfter before kept (accepted b o) = before
-  beforeAfter before kept (rejected o) = before
+  beforeAfter before kept (requestConfused o) = before
+  beforeAfter before kept (requestRight b o) = before
+  beforeAfter before kept (requestWrong o) = before
 
   module _ (rule : Book Bearer Request → Event → Verdict Bearer Request) where
-    abbrev pub lineOf : Book Bearer Request → Event → Line Bearer Event
-    lineOf k e = record { event = e; reply = answered k (rule k e); bearer = settled (moved k (rule k e)) }
+    abbrev pub logLine : Book Bearer Request → Event → LogLine Bearer Event
+    logLine k e = record { event = e; reply = replied k (rule k e); bearer = settled (moved k (rule k e)) }
 
     abbrev pub logged : Log Bearer Request Event → Event → Log Bearer Request Event
-    logged g e = record { book = moved (g .book) (rule (g .book) e); lines = g .lines ++ (lineOf (g .book) e ∷ []) }
+    logged g e = record { book = moved (g .book) (rule (g .book) e); lines = g .lines ++ (logLine (g .book) e ∷ []) }
 
     -- the run of the events from a fresh endpoint
     unfoldable pub logOf : List Event → Log Bearer Request Event
@@ -116,7 +116,7 @@ module _ {Bearer Request Event : Type 0} where
     marked s e =
         record {
           book = moved (s .book) (rule (s .book) e);
-          kept = keptAfter (s .book) (s .before) (s .kept) (lineOf (s .book) e) (rule (s .book) e);
+          kept = keptAfter (s .book) (s .before) (s .kept) (logLine (s .book) e) (rule (s .book) e);
           before = beforeAfter (s .before) (s .kept) (rule (s .book) e);
         }
 
@@ -124,7 +124,7 @@ module _ {Bearer Request Event : Type 0} where
     sheetOf es = foldl marked (record { book = idle; kept = []; before = [] }) es
 
     -- the lines of the run that no failed attempt takes
-    abbrev pub keptOf : List Event → Lines Bearer Event
+    abbrev pub keptOf : List Event → LogLines Bearer Event
     keptOf es = sheetOf es .kept
 
     -- what the claim asks of the rule
@@ -135,11 +135,11 @@ module _ {Bearer Request Event : Type 0} where
       -- a release does not look at an open change
       pub released-change : (s : Side) (b : Bearer) (p : Request) (e : Event) → rule (awaitChange s b p) e ≡ released → rule (up s b) e ≡ released
       -- no Request is judged while a set-up is open, and one that is judged right is so whether or not a change is open
-      pub accepted-setup : (p : Request) (e : Event) (a : Bearer) (o : List ℕ) → rule (awaitSetup p) e ≡ accepted a o → ⊥
-      pub accepted-change : (s : Side) (b : Bearer) (p : Request) (e : Event) (a : Bearer) (o : List ℕ) → rule (awaitChange s b p) e ≡ accepted a o → rule (up s b) e ≡ accepted a o
+      pub accepted-setup : (p : Request) (e : Event) (a : Bearer) (o : List ℕ) → rule (awaitSetup p) e ≡ requestRight a o → ⊥
+      pub accepted-change : (s : Side) (b : Bearer) (p : Request) (e : Event) (a : Bearer) (o : List ℕ) → rule (awaitChange s b p) e ≡ requestRight a o → rule (up s b) e ≡ requestRight a o
       -- an exchange settles the bearer that its message names
       pub agreed-names : (k : Book Bearer Request) (e : Event) (b : Bearer) → rule k e ≡ agreed b → exchanged e ≡ some b
-      pub accepted-names : (k : Book Bearer Request) (e : Event) (b : Bearer) (o : List ℕ) → rule k e ≡ accepted b o → exchanged e ≡ some b
+      pub accepted-names : (k : Book Bearer Request) (e : Event) (b : Bearer) (o : List ℕ) → rule k e ≡ requestRight b o → exchanged e ≡ some b
 
     -- the claim
     pub record Struck (exchanged : Event → Option Bearer) (es : List Event) : Type 0 where

@@ -9,24 +9,24 @@ use Rattle.octets.proofs.CaseLaws.{by-bool}
 use Rattle.address.specs.declared.Address.{Address}
 use Rattle.media.specs.declared.Stream.{Stream as Places}
 use Rattle.media.specs.Meaning.{streamBy, streamInside, streamIn}
-use Rattle.ipbcp.specs.declared.Kind.{Kind}
+use Rattle.ipbcp.specs.declared.MessageType.{MessageType}
 use Rattle.ipbcp.specs.declared.Message.{Message}
 use Rattle.ipbcp.specs.declared.Message.the-variants as answer
 use Rattle.ipbcp.specs.Reading.{Reading, refused, typed, described}
 use Rattle.ipbcp.specs.Meaning.{readingIn}
-use Rattle.card_message.specs.Code.{codeOf}
+use Rattle.card_message.specs.Code.{readingForC}
 
 module _ (m : List ℕ) (x : Message) (r : Reading) (is : readingIn m x ≡ some r) where
-  pub code-refused : (n : ℕ) → x ≡ answer.Refused n → n ≡ codeOf r
-  unfolding readingIn codeOf
+  pub code-refused : (n : ℕ) → x ≡ answer.Refused n → n ≡ readingForC r
+  unfolding readingIn readingForC
   code-refused n e = let q : some (refused n) ≡ some r = rw e at is in let z : refused n ≡ r = cc in rw (← z)
 
-  pub code-typed : (v : ℕ) (k : Kind) → x ≡ answer.Typed v k → 256 ≡ codeOf r
-  unfolding readingIn codeOf
+  pub code-typed : (v : ℕ) (k : MessageType) → x ≡ answer.Typed v k → 256 ≡ readingForC r
+  unfolding readingIn readingForC
   code-typed v k e = let q : some (typed v k) ≡ some r = rw e at is in let z : typed v k ≡ r = cc in rw (← z)
 
-  pub code-described : (k : Kind) (a : Address) (s : Places) → x ≡ answer.Described k a s → 1000 + s .port ≡ codeOf r
-  unfolding readingIn codeOf streamIn streamBy
+  pub code-described : (k : MessageType) (a : Address) (s : Places) → x ≡ answer.Described k a s → 1000 + s .port ≡ readingForC r
+  unfolding readingIn readingForC streamIn streamBy
   code-described k a s e =
       by-bool (streamInside m s) _
       (λ h. let q : some (described k a (streamBy m s)) ≡ some r = rw (e, h) at is in let z : described k a (streamBy m s) ≡ r = cc in rw (← z))

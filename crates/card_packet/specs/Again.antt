@@ -11,52 +11,52 @@ use Rattle.octets.specs.Puts.{putAnswer, putLeaves}
 use Rattle.address.specs.declared.Address.{Address}
 use Rattle.media.specs.declared.Stream.{Stream as Places}
 use Rattle.media.specs.Stream.{Stream}
-use Rattle.ipbcp.specs.declared.Kind.{Kind}
-use Rattle.ipbcp.specs.declared.Kind.the-variants.{Request, Accepted, Confused, Rejected}
+use Rattle.ipbcp.specs.declared.MessageType.{MessageType}
+use Rattle.ipbcp.specs.declared.MessageType.the-variants.{Request, Accepted, Confused, Rejected}
 use Rattle.ipbcp.specs.declared.Body.{Body}
 use Rattle.ipbcp.specs.declared.Body.the-variants as body
 use Rattle.ipbcp.specs.Reading.{Reading, refused, typed, described}
-use Rattle.ipbcp.specs.Writing.{Content, request, accepted, confused, rejected, octetsOf}
+use Rattle.ipbcp.specs.Writing.{Content, requestContent, acceptedContent, confusedContent, rejectedContent, messageOctets}
 use Rattle.bctp.specs.Packet.{packetText}
 
 -- what a message of this type has to say
-unfoldable pub contentOf : Kind → Stream → Content
-contentOf Request s = request s
-contentOf Accepted s = accepted s
-contentOf Confused s = confused
-contentOf Rejected s = rejected
+unfoldable pub contentOf : MessageType → Stream → Content
+contentOf Request s = requestContent s
+contentOf Accepted s = acceptedContent s
+contentOf Confused s = confusedContent
+contentOf Rejected s = rejectedContent
 
 -- its packet, if its fields are in range and it is not too long
-unfoldable pub packetOf : Kind → Address → Stream → Option (List ℕ)
-packetOf kind address stream = Option·map packetText (octetsOf address (contentOf kind stream))
+unfoldable pub packetOf : MessageType → Address → Stream → Option (List ℕ)
+packetOf kind address stream = Option·map packetText (messageOctets address (contentOf kind stream))
 
 -- a writer's answer: the count of octets, or document 01's number above one that no count reaches
 abbrev pub refusedFrom : ℕ
 refusedFrom = 65536
 
-abbrev pub codeOf : Put → ℕ
-codeOf (Octets n) = n
-codeOf (Refused n) = refusedFrom + n
+abbrev pub putForC : Put → ℕ
+putForC (Octets n) = n
+putForC (Refused n) = refusedFrom + n
 
 -- the answer where the buffer has so many octets; of a version and type alone nothing is written
-unfoldable pub answerTo : ℕ → Reading → ℕ
-answerTo room (refused n) = refusedFrom + n
-answerTo room (typed version kind) = 0
-answerTo room (described kind address stream) = codeOf (putAnswer room (packetOf kind address stream))
+unfoldable pub rewriteForC : ℕ → Reading → ℕ
+rewriteForC room (refused n) = refusedFrom + n
+rewriteForC room (typed version kind) = 0
+rewriteForC room (described kind address stream) = putForC (putAnswer room (packetOf kind address stream))
 
 -- what is left in the buffer l
-unfoldable pub left : List ℕ → Reading → List ℕ
-left l (refused n) = l
-left l (typed version kind) = l
-left l (described kind address stream) = putLeaves l (packetOf kind address stream)
+unfoldable pub bufferAfterRewrite : List ℕ → Reading → List ℕ
+bufferAfterRewrite l (refused n) = l
+bufferAfterRewrite l (typed version kind) = l
+bufferAfterRewrite l (described kind address stream) = putLeaves l (packetOf kind address stream)
 
 -- The call with a message that is read so and with the buffer l answers r and leaves f in it.
 pub record Rewrites (x : Reading) (l : List ℕ) (r : ℕ) (f : List ℕ) : Type 0 where
-  pub answers : r ≡ answerTo (length l) x
-  pub leaves : f ≡ left l x
+  pub answers : r ≡ rewriteForC (length l) x
+  pub leaves : f ≡ bufferAfterRewrite l x
 
 -- ---- for a function that is not public
-abbrev pub bodyOf : Kind → Places → Body
+abbrev pub bodyOf : MessageType → Places → Body
 bodyOf Request s = body.Request s
 bodyOf Accepted s = body.Accepted s
 bodyOf Confused s = body.Confused

@@ -2,9 +2,9 @@
 // read the packets.
 ghost use mathlib.Core.Path.{_≡_};
 ghost use Rattle.ipbcp.specs.Reading.{readMessage};
-ghost use Rattle.card_packet.specs.Again.{bodyOf, codeOf, Rewrites};
+ghost use Rattle.card_packet.specs.Again.{bodyOf, putForC, Rewrites};
 use ipbcp::Body;
-use ipbcp::Kind;
+use ipbcp::MessageType;
 use ipbcp::Message;
 use media::Stream;
 use octets::Put;
@@ -13,20 +13,20 @@ use octets::Put;
 pub const REFUSED: usize = 65536;
 
 // What is written of a message of this type.
-fn body_of(kind: Kind, stream: Stream) -> Body
+fn body_of(kind: MessageType, stream: Stream) -> Body
     ensures { λ r. ⌜ r ≡ bodyOf kind stream ⌝ }
 {
     match kind {
-        Kind::Request => Body::Request(stream),
-        Kind::Accepted => Body::Accepted(stream),
-        Kind::Confused => Body::Confused,
-        Kind::Rejected => Body::Rejected,
+        MessageType::Request => Body::Request(stream),
+        MessageType::Accepted => Body::Accepted(stream),
+        MessageType::Confused => Body::Confused,
+        MessageType::Rejected => Body::Rejected,
     }
 }
 
 // A writer's answer as one number.
 fn code(r: Put) -> usize
-    ensures { λ x. ⌜ x ≡ codeOf r ⌝ }
+    ensures { λ x. ⌜ x ≡ putForC r ⌝ }
 {
     match r {
         Put::Octets(n) => n,

@@ -16,7 +16,7 @@ use Rattle.configuration.specs.declared.Codec.{Codec as Place}
 use Rattle.configuration.specs.declared.Config.{Config}
 use Rattle.configuration.specs.declared.Checked.the-variants.{Usable, Refused}
 use Rattle.configuration.specs.Configuration.{Codec, between, allVisible, rightCodec, allRight, rightTimes, rightCodecs, rightGeneral, rightConfiguration}
-use Rattle.configuration.specs.Meaning.{codecBy, codecsBy, configurationBy, formatInside, allInside, configInside, rightConfig, checked}
+use Rattle.configuration.specs.Meaning.{codecBy, codecsBy, configurationBy, formatInside, allFormatsInside, configInside, rightConfig, checked}
 use Rattle.configuration.proofs.EntryLaws.{length-codecs, count-few, drop-places, drop-codecs}
 
 -- ---- a name's octets; x is what all of them say, and those from i on decide
@@ -49,9 +49,9 @@ and-swap true true p q = refl
 
 -- the first entry, and those behind it
 first-decides : (k : Place) (ks : List Place) (rs : List Codec)
-    → (allInside (k ∷ ks) && allRight (codecBy k ∷ rs)) ≡ ((formatInside (k .format) && rightCodec (codecBy k)) && (allInside ks && allRight rs))
-unfolding allInside allRight
-first-decides k ks rs = and-swap (formatInside (k .format)) (allInside ks) (rightCodec (codecBy k)) (allRight rs)
+    → (allFormatsInside (k ∷ ks) && allRight (codecBy k ∷ rs)) ≡ ((formatInside (k .format) && rightCodec (codecBy k)) && (allFormatsInside ks && allRight rs))
+unfolding allFormatsInside allRight
+first-decides k ks rs = and-swap (formatInside (k .format)) (allFormatsInside ks) (rightCodec (codecBy k)) (allRight rs)
 
 module _ (c : Config) where
   pub codecs-none : c .count < 1 → false ≡ (configInside c && rightCodecs (codecsBy c))
@@ -69,21 +69,21 @@ module _ (c : Config) where
     l = (count-few c g w few) .is
 
     pub codecs-start : 1 ≤ c .count
-        → (allInside (take (c .count) (c .codecs)) && allRight (codecsBy c)) ≡ (configInside c && rightCodecs (codecsBy c))
+        → (allFormatsInside (take (c .count) (c .codecs)) && allRight (codecsBy c)) ≡ (configInside c && rightCodecs (codecsBy c))
     unfolding configInside rightCodecs
     codecs-start h = rw (← l, le-leb 1 (c .count) h, le-leb (c .count) 8 few)
 
     -- x is what all entries say, and those from i on decide
-    module _ (i : ℕ) (x : Bool) (inv : (allInside (drop i (take (c .count) (c .codecs))) && allRight (drop i (codecsBy c))) ≡ x) where
+    module _ (i : ℕ) (x : Bool) (inv : (allFormatsInside (drop i (take (c .count) (c .codecs))) && allRight (drop i (codecsBy c))) ≡ x) where
       pub codecs-all : c .count ≤ i → true ≡ x
-      unfolding allInside allRight
+      unfolding allFormatsInside allRight
       codecs-all h =
           let z : length (take (c .count) (c .codecs)) ≤ i = simp length-take (omega arith) in
           rw (drop-of-length-le (take (c .count) (c .codecs)) z, drop-of-length-le (codecsBy c) {i = i} (omega (arith, l))) at inv
 
       module _ (h : i < c .count) (d : Place) (u : Bool)
           (r : u ≡ (formatInside (getD (c .codecs) i d .format) && rightCodec (codecBy (getD (c .codecs) i d)))) where
-        turn : (u && (allInside (drop (i + 1) (take (c .count) (c .codecs))) && allRight (drop (i + 1) (codecsBy c)))) ≡ x
+        turn : (u && (allFormatsInside (drop (i + 1) (take (c .count) (c .codecs))) && allRight (drop (i + 1) (codecsBy c)))) ≡ x
         turn =
             let z : i < length (codecsBy c) = omega (arith, l) in
             rw r (rw (drop-places c i d z, drop-codecs c i d z, first-decides) at inv)
@@ -91,7 +91,7 @@ module _ (c : Config) where
         pub codecs-not : u ≡ false → false ≡ x
         codecs-not q = rw q at turn
 
-        pub codecs-more : u ≡ true → (allInside (drop (i + 1) (take (c .count) (c .codecs))) && allRight (drop (i + 1) (codecsBy c))) ≡ x
+        pub codecs-more : u ≡ true → (allFormatsInside (drop (i + 1) (take (c .count) (c .codecs))) && allRight (drop (i + 1) (codecsBy c))) ≡ x
         codecs-more q = rw q at turn
 
 pub ruleset codecsRight = (codecs-none, codecs-many, codecs-start, codecs-all, codecs-not, codecs-more)

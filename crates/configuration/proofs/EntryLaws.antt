@@ -13,7 +13,7 @@ use Rattle.configuration.specs.declared.Codec.{Codec as Place}
 use Rattle.configuration.specs.declared.Config.{Config}
 use Rattle.configuration.specs.Configuration.{Codec, names, namedIn, entryIn}
 use Rattle.configuration.specs.Meaning.{codecBy, codecsBy}
-use Rattle.configuration.specs.Steps.{Counted}
+use Rattle.configuration.specs.Steps.{EntryCount}
 
 -- ---- how many there are
 module _ (c : Config) where
@@ -26,10 +26,10 @@ module _ (c : Config) where
     l : length (c .codecs) ≡ 8
     l = sym (length-map (c .codecs) g) ∙ w
 
-    pub count-all : 8 < c .count → Counted c 8
+    pub count-all : 8 < c .count → EntryCount c 8
     count-all h = record { is = omega (arith, length-codecs, l); few = omega arith }
 
-    pub count-few : c .count ≤ 8 → Counted c (c .count)
+    pub count-few : c .count ≤ 8 → EntryCount c (c .count)
     count-few h = record { is = omega (arith, length-codecs, l); few = h }
 
 pub ruleset counts = (count-all, count-few)

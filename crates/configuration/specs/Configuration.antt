@@ -98,9 +98,9 @@ namedIn [] payload text = false
 namedIn (k ∷ ks) payload text = names k payload text || namedIn ks payload text
 
 -- a packet time is in range
-abbrev pub inRange : Configuration → ℕ → Bool
-inRange c n = between (c .least) (c .most) n
+abbrev pub ptimeInRange : Configuration → ℕ → Bool
+ptimeInRange c n = between (c .least) (c .most) n
 
 -- or none, which is 0
-unfoldable pub noneOrInRange : Configuration → ℕ → Bool
-noneOrInRange c n = eqb n 0 || inRange c n
+unfoldable pub ptimeNoneOrInRange : Configuration → ℕ → Bool
+ptimeNoneOrInRange c n = eqb n 0 || ptimeInRange c n

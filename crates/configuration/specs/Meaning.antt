@@ -9,7 +9,7 @@ use lib.Dec.{leb}
 use Rattle.configuration.specs.declared.Format.{Format}
 use Rattle.configuration.specs.declared.Format.the-variants.{Payload, Named}
 use Rattle.configuration.specs.declared.Codec.{Codec as Place}
-use Rattle.configuration.specs.declared.Entry.{Entry}
+use Rattle.configuration.specs.declared.FoundCodec.{FoundCodec}
 use Rattle.configuration.specs.declared.Config.{Config}
 use Rattle.configuration.specs.declared.Checked.{Checked}
 use Rattle.configuration.specs.declared.Checked.the-variants.{Usable, Refused}
@@ -38,20 +38,20 @@ configurationBy c = record {
 }
 
 -- an entry that was looked for
-abbrev pub entryBy : Entry → Option Codec
-entryBy e = cond (e .known) (some (codecBy (e .codec))) none
+abbrev pub foundBy : FoundCodec → Option Codec
+foundBy e = cond (e .known) (some (codecBy (e .codec))) none
 
 -- ---- no count and no length goes past its array
 unfoldable pub formatInside : Format → Bool
 formatInside (Payload n) = true
 formatInside (Named n) = leb n mostName
 
-unfoldable pub allInside : List Place → Bool
-allInside [] = true
-allInside (k ∷ ks) = formatInside (k .format) && allInside ks
+unfoldable pub allFormatsInside : List Place → Bool
+allFormatsInside [] = true
+allFormatsInside (k ∷ ks) = formatInside (k .format) && allFormatsInside ks
 
 unfoldable pub configInside : Config → Bool
-configInside c = leb (c .count) mostCodecs && allInside (take (c .count) (c .codecs))
+configInside c = leb (c .count) mostCodecs && allFormatsInside (take (c .count) (c .codecs))
 
 -- ---- number 12
 unfoldable pub rightConfig : Config → Bool

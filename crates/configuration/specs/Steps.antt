@@ -7,6 +7,6 @@ use Rattle.configuration.specs.Configuration.{mostCodecs}
 use Rattle.configuration.specs.Meaning.{codecsBy}
 
 -- r is how many entries there are; the bound is the array's, and is here for callers
-pub record Counted (c : Config) (r : ℕ) : Type 0 where
+pub record EntryCount (c : Config) (r : ℕ) : Type 0 where
   pub is : r ≡ length (codecsBy c)
   pub few : r ≤ mostCodecs

@@ -2,11 +2,11 @@
 ghost use mathlib.Core.Path.{_≡_};
 ghost use Rattle.octets.specs.Append.{Appends};
 ghost use Rattle.configuration.specs.Configuration.{fixed, suits, nameOf, names, namedIn, entryIn};
-ghost use Rattle.configuration.specs.Meaning.{codecBy, codecsBy, entryBy};
-ghost use Rattle.configuration.specs.Steps.{Counted};
+ghost use Rattle.configuration.specs.Meaning.{codecBy, codecsBy, foundBy};
+ghost use Rattle.configuration.specs.Steps.{EntryCount};
 use crate::Codec;
 use crate::Config;
-use crate::Entry;
+use crate::FoundCodec;
 use crate::Format;
 use crate::MOST_CODECS;
 use crate::MOST_NAME;
@@ -61,7 +61,7 @@ fn names_entry(k: Codec, payload: u8, text: &[u8]) -> bool
 
 // How many entries there are, at most as many as the array holds.
 fn entries(c: Config) -> usize
-    ensures { λ r. ⌜ Counted c r ⌝ }
+    ensures { λ r. ⌜ EntryCount c r ⌝ }
 {
     let n = c.count;
     if MOST_CODECS < n {
@@ -87,26 +87,26 @@ pub fn names_any(c: Config, payload: u8, text: &[u8]) -> bool
 }
 
 // Codec entry n, counted from 1.
-pub fn entry_at(c: Config, n: u16) -> Entry
-    ensures { λ r. ⌜ entryBy r ≡ entryIn (codecsBy c) n ⌝ }
+pub fn entry_at(c: Config, n: u16) -> FoundCodec
+    ensures { λ r. ⌜ foundBy r ≡ entryIn (codecsBy c) n ⌝ }
 {
     let count = entries(c);
     let at = n as usize;
     if at < 1 {
-        return Entry {
+        return FoundCodec {
             known: false,
             codec: blank(),
         };
     }
     if count < at {
-        return Entry {
+        return FoundCodec {
             known: false,
             codec: blank(),
         };
     }
     let i = at - 1;
     let codec = c.codecs[i];
-    Entry { known: true, codec }
+    FoundCodec { known: true, codec }
 }
 
 // An entry that says nothing.

@@ -3,7 +3,7 @@ pub mod check;
 pub mod codecs;
 
 ghost use mathlib.Core.Path.{_≡_};
-ghost use Rattle.configuration.specs.Configuration.{noneOrInRange};
+ghost use Rattle.configuration.specs.Configuration.{ptimeNoneOrInRange};
 ghost use Rattle.configuration.specs.Meaning.{configurationBy};
 use address::Address;
 
@@ -45,14 +45,14 @@ pub enum Checked {
 }
 
 // A codec entry that was looked for; where it is not known, the codec says nothing.
-pub struct Entry {
+pub struct FoundCodec {
     pub known: bool,
     pub codec: Codec,
 }
 
 // The packet time n is none, which is 0, or in range.
 pub fn none_or_in_range(c: Config, n: u16) -> bool
-    ensures { λ r. ⌜ r ≡ noneOrInRange (configurationBy c) n ⌝ }
+    ensures { λ r. ⌜ r ≡ ptimeNoneOrInRange (configurationBy c) n ⌝ }
 {
     let least = c.least as u16;
     let most = c.most as u16;

@@ -23,8 +23,8 @@ use Rattle.media.specs.Meaning.{streamBy, takenBy}
 use Rattle.description.specs.declared.Preamble.{Preamble}
 use Rattle.description.specs.declared.Extended.{Extended}
 use Rattle.description.specs.declared.Extended.the-variants.{Go, Wrong}
-use Rattle.description.specs.Draft.{Draft, needed, versionLine, isOrigin, originLine, sessionLine, connectionLine, isTime, timeLine, mediaLine, ipbcpWord, ipbcpLine, withStream, attributeLine, skippedLetters, fieldOf}
-use Rattle.description.specs.Meaning.{preambleBy, extendedBy, between, isIpbcp, isSkipped, preambleLine, later, laterBy, LaterLine}
+use Rattle.description.specs.Draft.{Draft, needed, versionLine, isOrigin, originLine, sessionLine, connectionLine, isTime, timeLine, mediaLine, ipbcpWord, ipbcpLine, withStream, attributeLine, skippedLetters, afterField}
+use Rattle.description.specs.Meaning.{preambleBy, extendedBy, afterIpbcp, isIpbcp, isSkipped, preambleLine, afterMedia, afterMediaBy, LaterLine}
 
 -- ---- lines that say nothing
 module _ (v : List ℕ) where
@@ -60,42 +60,42 @@ skipped-not letter v e =
     rw (f .0, f .1)
 
 skipped-six : (a : Address) (letter : ℕ) (v : List ℕ)
-    → cond (eqb letter 97) (attributeLine (between a) v) (cond (has letter skippedLetters) (some (between a)) none) ≡ cond (isSkipped letter v) (some (between a)) none
-unfolding isIpbcp isSkipped attributeLine ipbcpLine needed between
+    → cond (eqb letter 97) (attributeLine (afterIpbcp a) v) (cond (has letter skippedLetters) (some (afterIpbcp a)) none) ≡ cond (isSkipped letter v) (some (afterIpbcp a)) none
+unfolding isIpbcp isSkipped attributeLine ipbcpLine needed afterIpbcp
 skipped-six a letter v =
     by-bool (isIpbcp letter v) _
     (λ e. by-eq letter 97 _
     (λ f. let n : begins ipbcpWord v ≡ true = rw f at e in rw (f, n))
     (λ f. rw (ne-eqb letter 97 f)))
-    (λ e. skipped-else (between a) letter v e refl)
+    (λ e. skipped-else (afterIpbcp a) letter v e refl)
 
 -- ---- before the ipbcp line: r is what the code made of the line with the value v
 module _ (v : List ℕ) (o : Preamble) (letter : ℕ) where
   module _ (r : Extended) where
     pub field-v : letter ≡ 118 → (w : Bool) → w ≡ same (48 ∷ []) v → extendedBy r ≡ needed 0 w (preambleBy o) → extendedBy r ≡ preambleLine (preambleBy o) letter v
-    unfolding preambleLine isIpbcp fieldOf versionLine
+    unfolding preambleLine isIpbcp afterField versionLine
     field-v e w p q = rw (e, ← p) q
 
     pub field-o : letter ≡ 111 → (w : Bool) → w ≡ isOrigin v → extendedBy r ≡ needed 1 w (preambleBy o) → extendedBy r ≡ preambleLine (preambleBy o) letter v
-    unfolding preambleLine isIpbcp fieldOf originLine
+    unfolding preambleLine isIpbcp afterField originLine
     field-o e w p q = rw (e, ← p) q
 
     pub field-s : letter ≡ 115 → extendedBy r ≡ needed 2 true (preambleBy o) → extendedBy r ≡ preambleLine (preambleBy o) letter v
-    unfolding preambleLine isIpbcp fieldOf sessionLine
+    unfolding preambleLine isIpbcp afterField sessionLine
     field-s e q = rw e q
 
     pub field-c : letter ≡ 99 → extendedBy r ≡ connectionLine (preambleBy o) v → extendedBy r ≡ preambleLine (preambleBy o) letter v
-    unfolding preambleLine isIpbcp fieldOf
+    unfolding preambleLine isIpbcp afterField
     field-c e q = rw e q
 
     pub field-t : letter ≡ 116 → (w : Bool) → w ≡ isTime v → extendedBy r ≡ needed 4 w (preambleBy o) → extendedBy r ≡ preambleLine (preambleBy o) letter v
-    unfolding preambleLine isIpbcp fieldOf timeLine
+    unfolding preambleLine isIpbcp afterField timeLine
     field-t e w p q = rw (e, ← p) q
 
   module _ (a : letter ≡ 118 → ⊥) (b : letter ≡ 111 → ⊥) (c : letter ≡ 115 → ⊥) (f : letter ≡ 99 → ⊥) (g : letter ≡ 116 → ⊥) (w : Bool) (is : w ≡ isSkipped letter v) where
     -- the media line, an attribute, or a letter that is skipped
-    field-rest : isIpbcp letter v ≡ false → fieldOf (preambleBy o) letter v ≡ cond (isSkipped letter v) (some (preambleBy o)) none
-    unfolding fieldOf preambleBy mediaLine isSkipped has
+    field-rest : isIpbcp letter v ≡ false → afterField (preambleBy o) letter v ≡ cond (isSkipped letter v) (some (preambleBy o)) none
+    unfolding afterField preambleBy mediaLine isSkipped has
     field-rest e =
         by-eq letter 109 _
         (λ h. rw (h, ne-eqb (min (o .had) 5) 6 (λ k. omega arith)))
@@ -120,8 +120,8 @@ module _ (v : List ℕ) (o : Preamble) (letter : ℕ) where
 pub ruleset fields = (field-v, field-o, field-s, field-c, field-t, field-skipped, field-other)
 
 -- ---- between the ipbcp line and the media line: d has six needed lines
-pub between-line : (a : Address) (letter : ℕ) (v : List ℕ) → (letter ≡ 109 → ⊥) → fieldOf (between a) letter v ≡ cond (isSkipped letter v) (some (between a)) none
-unfolding fieldOf versionLine originLine sessionLine connectionLine timeLine needed between isSkipped has
+pub between-line : (a : Address) (letter : ℕ) (v : List ℕ) → (letter ≡ 109 → ⊥) → afterField (afterIpbcp a) letter v ≡ cond (isSkipped letter v) (some (afterIpbcp a)) none
+unfolding afterField versionLine originLine sessionLine connectionLine timeLine needed afterIpbcp isSkipped has
 between-line a letter v h =
     by-eq letter 118 _ (λ e. rw e)
     (λ b. by-eq letter 111 _ (λ e. rw e)
@@ -148,8 +148,8 @@ attribute-none s a h =
 
 module _ (a : Address) (s : Stream) where
   -- each needed line stands before
-  later-rest : (letter : ℕ) (v : List ℕ) → (letter ≡ 97 → ⊥) → fieldOf (later a s) letter v ≡ cond (has letter skippedLetters) (some (later a s)) none
-  unfolding fieldOf versionLine originLine sessionLine connectionLine timeLine mediaLine needed later has
+  later-rest : (letter : ℕ) (v : List ℕ) → (letter ≡ 97 → ⊥) → afterField (afterMedia a s) letter v ≡ cond (has letter skippedLetters) (some (afterMedia a s)) none
+  unfolding afterField versionLine originLine sessionLine connectionLine timeLine mediaLine needed afterMedia has
   later-rest letter v k =
       by-eq letter 118 _ (λ e. rw e)
       (λ b. by-eq letter 111 _ (λ e. rw e)
@@ -159,8 +159,8 @@ module _ (a : Address) (s : Stream) where
       (λ g. by-eq letter 109 _ (λ e. rw e)
       (λ h. rw (ne-eqb letter 118 b, ne-eqb letter 111 c, ne-eqb letter 115 d, ne-eqb letter 99 f, ne-eqb letter 116 g, ne-eqb letter 109 h, ne-eqb letter 97 k)))))))
 
-  later-attribute : (v : List ℕ) → begins ipbcpWord v ≡ false → Option·map (later a) (attributeOf s v) ≡ fieldOf (later a s) 97 v
-  unfolding fieldOf attributeLine later withStream
+  later-attribute : (v : List ℕ) → begins ipbcpWord v ≡ false → Option·map (afterMedia a) (attributeOf s v) ≡ afterField (afterMedia a s) 97 v
+  unfolding afterField attributeLine afterMedia withStream
   later-attribute v e =
       by-bool (isAttribute v) _
       (λ h. rw (e, h))
@@ -172,20 +172,20 @@ module _ (m : List ℕ) (s : Places) (letter : ℕ) (v : Span) where
     told c e = rw (← at) (sym p ∙ e)
 
     pub later-ipbcp : b ≡ true → LaterLine m s letter v TakenWrong
-    unfolding fieldOf attributeLine ipbcpLine needed later laterBy takenBy
+    unfolding afterField attributeLine ipbcpLine needed afterMedia afterMediaBy takenBy
     later-ipbcp e = record { is = λ a. rw (is, told true e) }
 
     pub later-a : b ≡ false → (r : Taken) → takenBy m r ≡ attributeOf (streamBy m s) (textOf m v) → LaterLine m s letter v r
-    unfolding laterBy
+    unfolding afterMediaBy
     later-a e r q = record { is = λ a. rw (is, q) (later-attribute a (streamBy m s) (textOf m v) (told false e)) }
 
   module _ (no : letter ≡ 97 → ⊥) (w : Bool) (is : w ≡ has letter skippedLetters) where
     pub later-skipped : w ≡ true → LaterLine m s letter v (TakenStream s)
-    unfolding laterBy takenBy
+    unfolding afterMediaBy takenBy
     later-skipped e = record { is = λ a. sym (later-rest a (streamBy m s) letter (textOf m v) no ∙ rw (← is, e)) }
 
     pub later-other : w ≡ false → LaterLine m s letter v TakenWrong
-    unfolding laterBy takenBy
+    unfolding afterMediaBy takenBy
     later-other e = record { is = λ a. sym (later-rest a (streamBy m s) letter (textOf m v) no ∙ rw (← is, e)) }
 
 pub ruleset laters = (later-ipbcp, later-a, later-skipped, later-other)

@@ -6,6 +6,7 @@ use mathlib.Core.Bool.{Bool, true, _&&_, _||_, cond}
 use mathlib.Core.Option.{Option, none, some, Option·map}
 use lib.Dec.{eqb}
 use Rattle.octets.specs.Split.{has}
+use Rattle.octets.specs.Text.{ascii, char}
 use Rattle.octets.specs.Words.{begins, same, digitRun}
 use Rattle.texts.specs.Tokens.{token, tokenCount}
 use Rattle.address.specs.declared.Address.{Address}
@@ -27,8 +28,8 @@ pub record Draft : Type 0 where
   pub stream : Stream
 
 -- before the first line
-unfoldable pub start : Draft
-start = record { had = 0; address = V4 0; stream = bareStream [] 0 [] 0 }
+unfoldable pub emptyDraft : Draft
+emptyDraft = record { had = 0; address = V4 0; stream = bareStream [] 0 [] 0 }
 
 -- ---- the needed lines: once each, and in this order; v is what stands behind the letter and `=`
 unfoldable pub reached : ℕ → Draft → Draft
@@ -40,17 +41,17 @@ needed n right d = cond (eqb (d .had) n) (cond right (some (reached (n + 1) d)) 
 
 -- `v=0`
 unfoldable pub versionLine : Draft → List ℕ → Option Draft
-versionLine d v = needed 0 (same (48 ∷ []) v) d
+versionLine d v = needed 0 (same (ascii "0") v) d
 
--- "IN", "IP4" and "IP6"
+-- ---- the words of `o=` and `c=`
 abbrev pub inWord : List ℕ
-inWord = 73 ∷ 78 ∷ []
+inWord = ascii "IN"
 
 abbrev pub ip4Word : List ℕ
-ip4Word = 73 ∷ 80 ∷ 52 ∷ []
+ip4Word = ascii "IP4"
 
 abbrev pub ip6Word : List ℕ
-ip6Word = 73 ∷ 80 ∷ 54 ∷ []
+ip6Word = ascii "IP6"
 
 -- six tokens, of which the fourth and the fifth are looked at
 unfoldable pub isOrigin : List ℕ → Bool
@@ -95,9 +96,8 @@ unfoldable pub mediaLine : Draft → List ℕ → Option Draft
 mediaLine d v = cond (eqb (d .had) 6) (Option·map (withStream d) (mediaOf v)) none
 
 -- ---- attributes; a is what stands behind `a=`
--- "ipbcp:"
 abbrev pub ipbcpWord : List ℕ
-ipbcpWord = 105 ∷ 112 ∷ 98 ∷ 99 ∷ 112 ∷ 58 ∷ []
+ipbcpWord = ascii "ipbcp:"
 
 -- The three attributes of a media line stand behind it alone; others than these are skipped.
 unfoldable pub attributeLine : Draft → List ℕ → Option Draft
@@ -108,24 +108,24 @@ attributeLine d a =
     (some d))
 
 -- ---- any line
--- i, u, e, p, b, z, k and r
+-- the letters of lines that are skipped
 abbrev pub skippedLetters : List ℕ
-skippedLetters = 105 ∷ 117 ∷ 101 ∷ 112 ∷ 98 ∷ 122 ∷ 107 ∷ 114 ∷ []
+skippedLetters = ascii "iuepbzkr"
 
--- by the letter: v, o, s, c, t, m, a, one of those that are skipped, or another, which is wrong
-unfoldable pub fieldOf : Draft → ℕ → List ℕ → Option Draft
-fieldOf d letter v =
-    cond (eqb letter 118) (versionLine d v)
-    (cond (eqb letter 111) (originLine d v)
-    (cond (eqb letter 115) (sessionLine d)
-    (cond (eqb letter 99) (connectionLine d v)
-    (cond (eqb letter 116) (timeLine d v)
-    (cond (eqb letter 109) (mediaLine d v)
-    (cond (eqb letter 97) (attributeLine d v)
+-- by the letter; one that is not among these is wrong
+unfoldable pub afterField : Draft → ℕ → List ℕ → Option Draft
+afterField d letter v =
+    cond (eqb letter (char "v")) (versionLine d v)
+    (cond (eqb letter (char "o")) (originLine d v)
+    (cond (eqb letter (char "s")) (sessionLine d)
+    (cond (eqb letter (char "c")) (connectionLine d v)
+    (cond (eqb letter (char "t")) (timeLine d v)
+    (cond (eqb letter (char "m")) (mediaLine d v)
+    (cond (eqb letter (char "a")) (attributeLine d v)
     (cond (has letter skippedLetters) (some d) none)))))))
 
 -- a line is a letter, `=`, and what stands behind
-unfoldable pub lineOf : Draft → List ℕ → Option Draft
-lineOf d [] = none
-lineOf d (letter ∷ []) = none
-lineOf d (letter ∷ _ ∷ v) = fieldOf d letter v
+unfoldable pub afterLine : Draft → List ℕ → Option Draft
+afterLine d [] = none
+afterLine d (letter ∷ []) = none
+afterLine d (letter ∷ _ ∷ v) = afterField d letter v

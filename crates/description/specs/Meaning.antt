@@ -9,6 +9,7 @@ use lib.Dec.{eqb}
 use Rattle.octets.specs.declared.Span.{Span}
 use Rattle.octets.specs.Spans.{textOf}
 use Rattle.octets.specs.Split.{has}
+use Rattle.octets.specs.Text.{char}
 use Rattle.octets.specs.Words.{begins, same}
 use Rattle.texts.specs.Tokens.{token, tokenCount}
 use Rattle.address.specs.declared.Address.{Address}
@@ -20,7 +21,7 @@ use Rattle.media.specs.Meaning.{streamBy, takenBy}
 use Rattle.description.specs.declared.Preamble.{Preamble}
 use Rattle.description.specs.declared.Extended.{Extended}
 use Rattle.description.specs.declared.Extended.the-variants.{Go, Wrong}
-use Rattle.description.specs.Draft.{Draft, inWord, ip4Word, ip6Word, ipbcpWord, skippedLetters, fieldOf}
+use Rattle.description.specs.Draft.{Draft, inWord, ip4Word, ip6Word, ipbcpWord, skippedLetters, afterField}
 
 -- before the ipbcp line
 unfoldable pub preambleBy : Preamble → Draft
@@ -31,8 +32,8 @@ extendedBy (Go o) = some (preambleBy o)
 extendedBy Wrong = none
 
 -- between the ipbcp line and the media line
-unfoldable pub between : Address → Draft
-between a = record { had = 6; address = a; stream = bareStream [] 0 [] 0 }
+unfoldable pub afterIpbcp : Address → Draft
+afterIpbcp a = record { had = 6; address = a; stream = bareStream [] 0 [] 0 }
 
 -- for a function that is not public: the last three of the six tokens of an origin
 unfoldable pub isHost : List ℕ → Bool
@@ -40,24 +41,24 @@ isHost v = eqb (tokenCount v) 3 && (same inWord (token 0 v) && (same ip4Word (to
 
 -- a line of this letter and value is an ipbcp line
 unfoldable pub isIpbcp : ℕ → List ℕ → Bool
-isIpbcp letter v = eqb letter 97 && begins ipbcpWord v
+isIpbcp letter v = eqb letter (char "a") && begins ipbcpWord v
 
 -- it is skipped before the media line
 unfoldable pub isSkipped : ℕ → List ℕ → Bool
-isSkipped letter v = cond (eqb letter 97) (not (begins ipbcpWord v) && not (isAttribute v)) (has letter skippedLetters)
+isSkipped letter v = cond (eqb letter (char "a")) (not (begins ipbcpWord v) && not (isAttribute v)) (has letter skippedLetters)
 
 -- the preamble d with a line of this letter and value; an ipbcp line is no part of it
 unfoldable pub preambleLine : Draft → ℕ → List ℕ → Option Draft
-preambleLine d letter v = cond (isIpbcp letter v) none (fieldOf d letter v)
+preambleLine d letter v = cond (isIpbcp letter v) none (afterField d letter v)
 
 -- after the media line
-unfoldable pub later : Address → Stream → Draft
-later a s = record { had = 7; address = a; stream = s }
+unfoldable pub afterMedia : Address → Stream → Draft
+afterMedia a s = record { had = 7; address = a; stream = s }
 
 -- what was taken, by the octets of m that are in its spans
-unfoldable pub laterBy : Address → List ℕ → Taken → Option Draft
-laterBy a m r = Option·map (later a) (takenBy m r)
+unfoldable pub afterMediaBy : Address → List ℕ → Taken → Option Draft
+afterMediaBy a m r = Option·map (afterMedia a) (takenBy m r)
 
 -- r is the stream s with the line of this letter and value after its media line, whatever the address is
 pub record LaterLine (m : List ℕ) (s : Places) (letter : ℕ) (v : Span) (r : Taken) : Type 0 where
-  pub is : (a : Address) → laterBy a m r ≡ fieldOf (later a (streamBy m s)) letter (textOf m v)
+  pub is : (a : Address) → afterMediaBy a m r ≡ afterField (afterMedia a (streamBy m s)) letter (textOf m v)

@@ -3,7 +3,7 @@
 mod lines;
 
 ghost use mathlib.Core.Path.{_≡_};
-ghost use Rattle.description.specs.Draft.{start};
+ghost use Rattle.description.specs.Draft.{emptyDraft};
 ghost use Rattle.description.specs.Meaning.{preambleBy, extendedBy, isIpbcp, isSkipped, preambleLine, LaterLine};
 use address::Address;
 use media::Stream;
@@ -28,7 +28,7 @@ pub enum Extended {
 
 // The preamble before the first line.
 pub fn start() -> Preamble
-    ensures { λ r. ⌜ preambleBy r ≡ start ⌝ }
+    ensures { λ r. ⌜ preambleBy r ≡ emptyDraft ⌝ }
 {
     Preamble {
         had: 0,

@@ -16,7 +16,7 @@ use Rattle.octets.proofs.PutsLaws.{puts-no, puts-some}
 use Rattle.address.specs.declared.Address.{Address}
 use Rattle.ipbcp.specs.declared.Body.the-variants as asked-for
 use Rattle.ipbcp.specs.Meaning.{contentIn}
-use Rattle.ipbcp.specs.Writing.{Content, request, octetsOf, octetsIn}
+use Rattle.ipbcp.specs.Writing.{Content, requestContent, messageOctets, messageOctetsIn}
 use Rattle.ipbcp.proofs.RoundTrip.{octets-are}
 use Rattle.media.specs.Stream.{Stream}
 use Rattle.media.specs.Meaning.{streamInside, streamIn}
@@ -35,13 +35,13 @@ use Rattle.judge.specs.declared.Command.{Command}
 use Rattle.judge.specs.Commands.{commandBy, Commands}
 use Rattle.endpoint.specs.declared.Endpoint.{Endpoint}
 use Rattle.endpoint.specs.declared.Answer.{Answer}
-use Rattle.endpoint.specs.declared.Call.{Call}
-use Rattle.endpoint.specs.Call.{eventOf}
+use Rattle.endpoint.specs.declared.Event as code
 use Rattle.endpoint.specs.Rule.{Verdict, Event, said, commanding, ruled, rule, leastRoom}
-use Rattle.endpoint.specs.Step.{bookBy, bookOf, Gave, Silent, Says, Did}
+use Rattle.endpoint.specs.Step.{bookBy, bookOf, Gave, Did, eventBy}
+use Rattle.endpoint.specs.Private.{Silent, Says}
 
 -- a Request whose texts lie inside its array is what is written
-pub offered-content : (q : Request) → streamInside (q .text) (q .stream) ≡ true → contentIn (q .text) (asked-for.Request (q .stream)) ≡ some (request (requestBy q))
+pub offered-content : (q : Request) → streamInside (q .text) (q .stream) ≡ true → contentIn (q .text) (asked-for.Request (q .stream)) ≡ some (requestContent (requestBy q))
 unfolding contentIn streamIn requestBy
 offered-content q h = rw h
 
@@ -124,18 +124,18 @@ module _ (self : Endpoint) where
       let q : Refused n ≡ Octets (length t) = rw (le-ltb (length xs) (length t) fits) at a in
       absurd (let z : _≡_ {A = ℕ} 0 1 = cc in omega arith)
 
-  module _ (own : Address) (c : Content) (v : List ℕ → Verdict) (xs ys : List ℕ) (p : Put) (o : Option Content) (e : o ≡ some c) (puts : Puts (octetsIn own o) xs p ys) where
-    asked : Puts (octetsOf own c) xs p ys
-    unfolding octetsIn
-    asked = subst (λ (x : Option Content). Puts (octetsIn own x) xs p ys) e puts
+  module _ (own : Address) (c : Content) (v : List ℕ → Verdict) (xs ys : List ℕ) (p : Put) (o : Option Content) (e : o ≡ some c) (puts : Puts (messageOctetsIn own o) xs p ys) where
+    asked : Puts (messageOctets own c) xs p ys
+    unfolding messageOctetsIn
+    asked = subst (λ (x : Option Content). Puts (messageOctetsIn own x) xs p ys) e puts
 
-    pub said-octets : (n : ℕ) (r : Answer) → p ≡ Octets n → Says self v n r → Gave self (said (octetsOf own c) v) xs ys r
-    said-octets n r q g = wrote (octetsOf own c) v xs ys n r (subst (λ (x : Put). Puts (octetsOf own c) xs x ys) q asked) g
+    pub said-octets : (n : ℕ) (r : Answer) → p ≡ Octets n → Says self v n r → Gave self (said (messageOctets own c) v) xs ys r
+    said-octets n r q g = wrote (messageOctets own c) v xs ys n r (subst (λ (x : Put). Puts (messageOctets own c) xs x ys) q asked) g
 
-    pub said-refused : (n : ℕ) (r : Answer) → leastRoom ≤ length xs → p ≡ Refused n → Silent self (refused n) r → Gave self (said (octetsOf own c) v) xs ys r
+    pub said-refused : (n : ℕ) (r : Answer) → leastRoom ≤ length xs → p ≡ Refused n → Silent self (refused n) r → Gave self (said (messageOctets own c) v) xs ys r
     said-refused n r room q g =
-        unwritten (octetsOf own c) v xs ys n r (λ t h. let (_, _, few, _) = octets-are own c t h in omega arith)
-        (subst (λ (x : Put). Puts (octetsOf own c) xs x ys) q asked) g
+        unwritten (messageOctets own c) v xs ys n r (λ t h. let (_, _, few, _) = octets-are own c t h in omega arith)
+        (subst (λ (x : Put). Puts (messageOctets own c) xs x ys) q asked) g
 
   -- ---- commands
   module _ (entry payload ptime : ℕ) (m : Command) (h : Commands (configurationBy (self .config)) entry payload ptime m) where
@@ -152,5 +152,5 @@ module _ (self : Endpoint) where
     command-wrong xs r q g = commanded-as none (rw q) xs xs r (g xs)
 
   -- ---- one way in for every event
-  pub did-call : (a b : Call) (m xs ys : List ℕ) (r : Answer) → a ≡ b → Did self (eventOf b m) xs ys r → Did self (eventOf a m) xs ys r
-  did-call a b m xs ys r p g = subst (λ (x : Call). Did self (eventOf x m) xs ys r) (sym p) g
+  pub did-call : (a b : code.Event) (m xs ys : List ℕ) (r : Answer) → a ≡ b → Did self (eventBy b m) xs ys r → Did self (eventBy a m) xs ys r
+  did-call a b m xs ys r p g = subst (λ (x : code.Event). Did self (eventBy x m) xs ys r) (sym p) g

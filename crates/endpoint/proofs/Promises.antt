@@ -12,13 +12,13 @@ use borrow.Author.Tests.{le-ltb, le-leb, ne-eqb}
 use Rattle.octets.proofs.CaseLaws.{by-eq, by-bool}
 use Rattle.book.specs.declared.State.{State}
 use Rattle.book.specs.declared.Notice.{Notice}
-use Rattle.book.specs.Book.{settled, awaited, ignores, answered}
-use Rattle.book.specs.Book.{refused, discarded, opened, agreed, failed, released, confused, accepted, rejected}
-use Rattle.book.specs.Strike.{heldBy}
+use Rattle.book.specs.Book.{settled, awaited, ignores, replied}
+use Rattle.book.specs.Book.{refused, discarded, opened, agreed, failed, released, requestConfused, requestRight, requestWrong}
+use Rattle.book.specs.Strike.{inForceBy}
 use Rattle.book.proofs.Struck.{held-more}
 use Rattle.media.specs.Stream.{Stream}
-use Rattle.ipbcp.specs.declared.Kind as kinds
-use Rattle.ipbcp.specs.declared.Kind.the-variants as kind
+use Rattle.ipbcp.specs.declared.MessageType as kinds
+use Rattle.ipbcp.specs.declared.MessageType.the-variants as kind
 use Rattle.ipbcp.specs.declared.Head.{Head}
 use Rattle.ipbcp.specs.declared.Head.the-variants.{Typed, Untyped}
 use Rattle.ipbcp.specs.Types.{headIn}
@@ -31,7 +31,7 @@ use Rattle.configuration.specs.Meaning.{configurationBy, configInside, rightCon
 use Rattle.bearer.specs.Bearer.{Bearer}
 use Rattle.bearer.specs.Hearing as hears
 use Rattle.bearer.specs.Hearing.{Heard, heard, heardBy, bearerIn}
-use Rattle.bearer.specs.Judging.{commanded, rightRequest, granted, answerTo, rightAccepted}
+use Rattle.bearer.specs.Judging.{commanded, rightRequest, granted, acceptedFor, rightAccepted}
 use Rattle.bearer.proofs.Writable.{confused-octets, rejected-octets, commanded-octets, answered-octets}
 use Rattle.endpoint.specs.declared.Endpoint.{Endpoint}
 use Rattle.endpoint.specs.declared.Answer.{Answer}
@@ -39,7 +39,7 @@ use Rattle.endpoint.specs.declared.Reply.{Reply}
 use Rattle.endpoint.specs.declared.Reply.the-variants.{Refused, Done}
 use Rattle.endpoint.specs.Rule.{Book, Verdict, Event, Given, commanding, confusing, rejecting, judging, taking, answering, hearing, ruled, rule, exchanged, leastRoom}
 use Rattle.endpoint.specs.Step.{bookOf, Gave, Did}
-use Rattle.endpoint.specs.Demand.{toldBy}
+use Rattle.endpoint.specs.Demand.{replyBy}
 use Rattle.endpoint.specs.Promises.{rightIn, Discards, Takes, Judges, Confuses}
 use Rattle.endpoint.proofs.Ruled.{either, rule-laws}
 use Rattle.endpoint.proofs.Demand.{told-back}
@@ -56,9 +56,9 @@ refused-is self (opened q o) xs ys r n g e = absurd (no-refusal (g .reply) e)
 refused-is self (agreed b) xs ys r n g e = absurd (no-refusal (g .reply) e)
 refused-is self failed xs ys r n g e = absurd (no-refusal (g .reply) e)
 refused-is self released xs ys r n g e = absurd (no-refusal (g .reply) e)
-refused-is self (confused o) xs ys r n g e = absurd (no-refusal (g .reply) e)
-refused-is self (accepted b o) xs ys r n g e = absurd (no-refusal (g .reply) e)
-refused-is self (rejected o) xs ys r n g e = absurd (no-refusal (g .reply) e)
+refused-is self (requestConfused o) xs ys r n g e = absurd (no-refusal (g .reply) e)
+refused-is self (requestRight b o) xs ys r n g e = absurd (no-refusal (g .reply) e)
+refused-is self (requestWrong o) xs ys r n g e = absurd (no-refusal (g .reply) e)
 
 -- the endpoint and the buffer are as they were
 pub refusal-alters-nothing : (self : Endpoint) (e : Event) (xs ys : List ℕ) (r : Answer) (n : ℕ) → Did self e xs ys r → r .reply ≡ Refused n → (r .endpoint ≡ self) × (ys ≡ xs)
@@ -69,16 +69,16 @@ refusal-alters-nothing self e xs ys r n did p =
 -- ---- demand 3: the bearer in force
 -- It changes by an exchange that succeeds, whose bearer it then is, and by a release; by nothing else: `held` says so by the notice.
 pub bearer-changes : (self : Endpoint) (e : Event) (xs ys : List ℕ) (r : Answer) → Did self e xs ys r
-    → settled (bookOf (r .endpoint)) ≡ heldBy (toldBy (r .reply) ys) (settled (bookOf self)) (exchanged (configurationBy (self .config)) (record { event = e; room = length xs }))
+    → settled (bookOf (r .endpoint)) ≡ inForceBy (replyBy (r .reply) ys) (settled (bookOf self)) (exchanged (configurationBy (self .config)) (record { event = e; room = length xs }))
 bearer-changes self e xs ys r did =
     let c = configurationBy (self .config) in
     let g : Given = record { event = e; room = length xs } in
     let v = rule c (bookOf self) g in
-    let told : toldBy (r .reply) ys ≡ answered (bookOf self) v = told-by did in
-    ap settled (did .book) ∙ held-more (rule c) (rule-laws c) (bookOf self) g v refl ∙ ap (λ a. heldBy a (settled (bookOf self)) (exchanged c g)) (sym told)
+    let told : replyBy (r .reply) ys ≡ replied (bookOf self) v = told-by did in
+    ap settled (did .book) ∙ held-more (rule c) (rule-laws c) (bookOf self) g v refl ∙ ap (λ a. inForceBy a (settled (bookOf self)) (exchanged c g)) (sym told)
   where
-    told-by : Did self e xs ys r → toldBy (r .reply) ys ≡ answered (bookOf self) (rule (configurationBy (self .config)) (bookOf self) (record { event = e; room = length xs }))
-    told-by did = ap₂ toldBy (did .reply) (did .out) ∙ told-back (answered (bookOf self) (rule (configurationBy (self .config)) (bookOf self) (record { event = e; room = length xs }))) xs
+    told-by : Did self e xs ys r → replyBy (r .reply) ys ≡ replied (bookOf self) (rule (configurationBy (self .config)) (bookOf self) (record { event = e; room = length xs }))
+    told-by did = ap₂ replyBy (did .reply) (did .out) ∙ told-back (replied (bookOf self) (rule (configurationBy (self .config)) (bookOf self) (record { event = e; room = length xs }))) xs
 
 -- ---- from an event to the rules' verdict
 gave-ruled : (self : Endpoint) (e : Event) (xs ys : List ℕ) (r : Answer) (v : Verdict) → Did self e xs ys r → leastRoom ≤ length xs → ruled (configurationBy (self .config)) (bookOf self) e ≡ v → Gave self v xs ys r
@@ -87,7 +87,7 @@ gave-ruled self e xs ys r v did l p =
     subst (λ (w : Verdict). Gave self w xs ys r) (ap (λ (t : Bool). cond t (refused 4) (ruled (configurationBy (self .config)) (bookOf self) e)) (le-ltb (length xs) leastRoom l) ∙ p) did
 
 -- ---- demand 2: an Accepted puts its bearer in force exactly when it is right
-heard-accepted : (m : List ℕ) (version : ℕ) → length m ≤ mostRead → headIn m ≡ Typed version kind.Accepted → heard m ≡ hears.accepted (bearerIn (readMessage m))
+heard-accepted : (m : List ℕ) (version : ℕ) → length m ≤ mostRead → headIn m ≡ Typed version kind.Accepted → heard m ≡ hears.acceptedHeard (bearerIn (readMessage m))
 unfolding heard heardBy
 heard-accepted m version l h = rw (le-leb (length m) mostRead l, h)
 
@@ -132,11 +132,11 @@ accepted-unawaited self m xs ys version r did room short head unawaited =
     ∙ ap (λ (o : Option Stream). answering o (λ x. taking (configurationBy (self .config)) (settled (bookOf self)) x (bearerIn (readMessage m)))) unawaited))
 
 -- ---- demand 2: a peer's Request is accepted exactly when it is right
-heard-request : (m : List ℕ) → length m ≤ mostRead → headIn m ≡ Typed 1 kind.Request → heard m ≡ hears.request (bearerIn (readMessage m))
+heard-request : (m : List ℕ) → length m ≤ mostRead → headIn m ≡ Typed 1 kind.Request → heard m ≡ hears.requestHeard (bearerIn (readMessage m))
 unfolding heard heardBy
 heard-request m l h = rw (le-leb (length m) mostRead l, h)
 
-described-named : (x : Reading) (d : Bearer) → bearerIn x ≡ some d → (k : kinds.Kind) × (x ≡ described k (d .address) (d .stream))
+described-named : (x : Reading) (d : Bearer) → bearerIn x ≡ some d → (k : kinds.MessageType) × (x ≡ described k (d .address) (d .stream))
 unfolding bearerIn
 described-named (reading.refused n) d e = absurd (Option·none-ne-some d e)
 described-named (typed v k) d e = absurd (Option·none-ne-some d e)
@@ -147,21 +147,21 @@ unfolding rightConfig
 usable self h = and-eq-true-iff (configInside (self .config)) (rightConfiguration (configurationBy (self .config))) .0 h .1
 
 module _ (c : Configuration) (right : rightConfiguration c ≡ true) where
-  rejecting-is : rejecting c ≡ rejected (messageText (c .own) writing.rejected)
+  rejecting-is : rejecting c ≡ requestWrong (messageText (c .own) writing.rejectedContent)
   rejecting-is = rw (rejected-octets c right)
 
-  confusing-is : confusing c ≡ confused (messageText (c .own) writing.confused)
+  confusing-is : confusing c ≡ requestConfused (messageText (c .own) writing.confusedContent)
   confusing-is = rw (confused-octets c right)
 
   module _ (m : List ℕ) (f : Option Bearer) where
     judging-right : (d : Bearer) → bearerIn (readMessage m) ≡ some d → rightIn (rightRequest c f) (bearerIn (readMessage m)) ≡ true
-        → judging c f (bearerIn (readMessage m)) ≡ accepted (granted c d) (messageText (c .own) (writing.accepted (answerTo c d)))
+        → judging c f (bearerIn (readMessage m)) ≡ requestRight (granted c d) (messageText (c .own) (writing.acceptedContent (acceptedFor c d)))
     judging-right d e h =
         let (k, is) = described-named (readMessage m) d e in
         let t : rightRequest c f d ≡ true = rw e at h in
         rw (e, t, answered-octets c right m k f d is t)
 
-    judging-wrong : (o : Option Bearer) → rightIn (rightRequest c f) o ≡ false → judging c f o ≡ rejected (messageText (c .own) writing.rejected)
+    judging-wrong : (o : Option Bearer) → rightIn (rightRequest c f) o ≡ false → judging c f o ≡ requestWrong (messageText (c .own) writing.rejectedContent)
     judging-wrong none h = rejecting-is
     judging-wrong (some d) h = rw h rejecting-is
 
@@ -191,7 +191,7 @@ request-exactly self m xs ys r config did room short head heeds =
         ∙ p)
 
 -- one of another version is heard as such
-heard-other : (m : List ℕ) (version : ℕ) → length m ≤ mostRead → headIn m ≡ Typed version kind.Request → (version ≡ 1 → ⊥) → heard m ≡ hears.otherRequest
+heard-other : (m : List ℕ) (version : ℕ) → length m ≤ mostRead → headIn m ≡ Typed version kind.Request → (version ≡ 1 → ⊥) → heard m ≡ hears.otherVersionHeard
 unfolding heard heardBy
 heard-other m version l h n = rw (le-leb (length m) mostRead l, h, ne-eqb version 1 n)
 
@@ -202,7 +202,7 @@ unfolding configurationBy
 request-confused self m xs ys version r config did room short head other heeds =
     let c = configurationBy (self .config) in
     let g =
-    gave-ruled self (Event.message m) xs ys r (confused (messageText (c .own) writing.confused)) did room
+    gave-ruled self (Event.message m) xs ys r (requestConfused (messageText (c .own) writing.confusedContent)) did room
     (ap (hearing c (bookOf self)) (heard-other m version short head other)
     ∙ ap (λ (t : Bool). cond t discarded (confusing c)) heeds
     ∙ confusing-is c (usable self config)) in
@@ -229,24 +229,24 @@ Answered (opened q o) = Unit {0}
 Answered (agreed b) = Unit {0}
 Answered failed = Unit {0}
 Answered released = Unit {0}
-Answered (confused o) = Unit {0}
-Answered (accepted b o) = Unit {0}
-Answered (rejected o) = Unit {0}
+Answered (requestConfused o) = Unit {0}
+Answered (requestRight b o) = Unit {0}
+Answered (requestWrong o) = Unit {0}
 
 -- a Request of version 1 names what can be read of it
-request-names : (m : List ℕ) (d : Option Bearer) → heard m ≡ hears.request d → d ≡ bearerIn (readMessage m)
+request-names : (m : List ℕ) (d : Option Bearer) → heard m ≡ hears.requestHeard d → d ≡ bearerIn (readMessage m)
 unfolding heard heardBy
 request-names m d e =
     by-bool (leb (length m) mostRead) _
     (λ l. go (headIn m) (rw l at e))
-    (λ l. let w : hears.unreadable ≡ hears.request d = rw l at e in absurd (let z : _≡_ {A = ℕ} 0 1 = cc in omega arith))
+    (λ l. let w : hears.nothingHeard ≡ hears.requestHeard d = rw l at e in absurd (let z : _≡_ {A = ℕ} 0 1 = cc in omega arith))
   where
-    go : (y : Head) → heardBy y (readMessage m) ≡ hears.request d → d ≡ bearerIn (readMessage m)
+    go : (y : Head) → heardBy y (readMessage m) ≡ hears.requestHeard d → d ≡ bearerIn (readMessage m)
     go Untyped w = absurd (let z : _≡_ {A = ℕ} 0 1 = cc in omega arith)
     go (Typed v kind.Request) w =
         by-bool (eqb v 1) _
-        (λ t. let x : hears.request (bearerIn (readMessage m)) ≡ hears.request d = rw t at w in cc)
-        (λ t. let x : hears.otherRequest ≡ hears.request d = rw t at w in absurd (let z : _≡_ {A = ℕ} 0 1 = cc in omega arith))
+        (λ t. let x : hears.requestHeard (bearerIn (readMessage m)) ≡ hears.requestHeard d = rw t at w in cc)
+        (λ t. let x : hears.otherVersionHeard ≡ hears.requestHeard d = rw t at w in absurd (let z : _≡_ {A = ℕ} 0 1 = cc in omega arith))
     go (Typed v kind.Accepted) w = absurd (let z : _≡_ {A = ℕ} 0 1 = cc in omega arith)
     go (Typed v kind.Confused) w = absurd (let z : _≡_ {A = ℕ} 0 1 = cc in omega arith)
     go (Typed v kind.Rejected) w = absurd (let z : _≡_ {A = ℕ} 0 1 = cc in omega arith)
@@ -271,13 +271,13 @@ module _ (c : Configuration) (right : rightConfiguration c ≡ true) (m : List �
   taking-answered f q (some d) = either Answered (rightAccepted c f q d) (agreed d) failed tt tt
 
   hearing-answered : (k : Book) (h : Heard) → heard m ≡ h → Answered (hearing c k h)
-  hearing-answered k hears.unreadable e = tt
-  hearing-answered k hears.otherRequest e = either Answered (ignores k) discarded (confusing c) tt (subst Answered (sym (confusing-is c right)) tt)
-  hearing-answered k (hears.request d) e =
+  hearing-answered k hears.nothingHeard e = tt
+  hearing-answered k hears.otherVersionHeard e = either Answered (ignores k) discarded (confusing c) tt (subst Answered (sym (confusing-is c right)) tt)
+  hearing-answered k (hears.requestHeard d) e =
       either Answered (ignores k) discarded (judging c (settled k) d) tt
       (subst (λ (o : Option Bearer). Answered (judging c (settled k) o)) (sym (request-names m d e)) (judging-answered (settled k)))
-  hearing-answered k (hears.accepted d) e = answering-answered (awaited k) (λ q. taking c (settled k) q d) (λ q. taking-answered (settled k) q d)
-  hearing-answered k hears.declined e = answering-answered (awaited k) (λ q. failed) (λ q. tt)
+  hearing-answered k (hears.acceptedHeard d) e = answering-answered (awaited k) (λ q. taking c (settled k) q d) (λ q. taking-answered (settled k) q d)
+  hearing-answered k hears.declineHeard e = answering-answered (awaited k) (λ q. failed) (λ q. tt)
 
 pub message-answered : (self : Endpoint) (m xs ys : List ℕ) (r : Answer) (n : ℕ) → rightConfig (self .config) ≡ true → Did self (Event.message m) xs ys r → leastRoom ≤ length xs → r .reply ≡ Refused n → ⊥
 message-answered self m xs ys r n config did room e =
@@ -286,5 +286,5 @@ message-answered self m xs ys r n config did room e =
 
 -- such a command writes the octets of its Request, and opens it
 pub commanding-opens : (c : Configuration) → rightConfiguration c ≡ true → (entry payload ptime : ℕ) (q : Stream) → commanded c entry payload ptime ≡ some q
-    → commanding c (commanded c entry payload ptime) ≡ opened q (messageText (c .own) (writing.request q))
+    → commanding c (commanded c entry payload ptime) ≡ opened q (messageText (c .own) (writing.requestContent q))
 commanding-opens c right entry payload ptime q e = rw (e, commanded-octets c right entry payload ptime q e)

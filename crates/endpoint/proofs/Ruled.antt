@@ -11,16 +11,16 @@ use native.Mathlib.Omega.{arith}
 use Rattle.book.specs.declared.Side.{Side}
 use Rattle.book.specs.declared.Side.the-variants.{I, R}
 use Rattle.book.specs.Book.{idle, awaitSetup, up, awaitChange, ignores, settled}
-use Rattle.book.specs.Book.{refused, discarded, opened, agreed, failed, released, confused, accepted, rejected}
+use Rattle.book.specs.Book.{refused, discarded, opened, agreed, failed, released, requestConfused, requestRight, requestWrong}
 use Rattle.book.specs.Strike.{Laws}
 use Rattle.media.specs.Stream.{Stream}
 use Rattle.ipbcp.specs.Writing as writing
-use Rattle.ipbcp.specs.Writing.{octetsOf}
+use Rattle.ipbcp.specs.Writing.{messageOctets}
 use Rattle.configuration.specs.Configuration.{Configuration}
 use Rattle.bearer.specs.Bearer.{Bearer}
 use Rattle.bearer.specs.Hearing as hears
 use Rattle.bearer.specs.Hearing.{Heard, heard}
-use Rattle.bearer.specs.Judging.{commanded, rightRequest, granted, answerTo, rightAccepted}
+use Rattle.bearer.specs.Judging.{commanded, rightRequest, granted, acceptedFor, rightAccepted}
 use Rattle.endpoint.specs.Rule.{Book, Verdict, Event, setUp, change, release, t1, t2, message, Given, said, commanding, confusing, rejecting, judging, taking, hearing, ruled, rule, exchangeBy, exchangedIn, exchanged, leastRoom}
 
 -- which verdict it is: 0 opened, 1 released, 2 accepted, 3 agreed, 4 another
@@ -31,9 +31,9 @@ which (opened q o) = 0
 which (agreed b) = 3
 which failed = 4
 which released = 1
-which (confused o) = 4
-which (accepted b o) = 2
-which (rejected o) = 4
+which (requestConfused o) = 4
+which (requestRight b o) = 2
+which (requestWrong o) = 4
 
 -- the bearer that a verdict settles
 abbrev settles : Verdict → Option Bearer
@@ -43,9 +43,9 @@ settles (opened q o) = none
 settles (agreed b) = some b
 settles failed = none
 settles released = none
-settles (confused o) = none
-settles (accepted b o) = some b
-settles (rejected o) = none
+settles (requestConfused o) = none
+settles (requestRight b o) = some b
+settles (requestWrong o) = none
 
 -- two verdicts of different kinds are not equal
 apart : (v w : Verdict) (n : ℕ) → v ≡ w → n ≤ which v → which w < n → ⊥
@@ -64,13 +64,13 @@ saying P (some o) v p q = q o
 module _ (c : Configuration) where
   -- ---- which verdicts a message can get
   rejecting-which : 2 ≤ which (rejecting c)
-  rejecting-which = saying (λ v. 2 ≤ which v) (octetsOf (c .own) writing.rejected) (λ o. rejected o) (lit≤ tt) (λ o. lit≤ tt)
+  rejecting-which = saying (λ v. 2 ≤ which v) (messageOctets (c .own) writing.rejectedContent) (λ o. requestWrong o) (lit≤ tt) (λ o. lit≤ tt)
 
   judging-which : (f d : Option Bearer) → 2 ≤ which (judging c f d)
   judging-which f none = rejecting-which
   judging-which f (some d) =
       either (λ v. 2 ≤ which v) (rightRequest c f d) _ _
-      (saying (λ v. 2 ≤ which v) (octetsOf (c .own) (writing.accepted (answerTo c d))) (λ o. accepted (granted c d) o) (lit≤ tt) (λ o. lit≤ tt))
+      (saying (λ v. 2 ≤ which v) (messageOctets (c .own) (writing.acceptedContent (acceptedFor c d))) (λ o. requestRight (granted c d) o) (lit≤ tt) (λ o. lit≤ tt))
       rejecting-which
 
   taking-which : (f : Option Bearer) (q : Stream) (d : Option Bearer) → 3 ≤ which (taking c f q d)
@@ -78,34 +78,34 @@ module _ (c : Configuration) where
   taking-which f q (some d) = either (λ v. 3 ≤ which v) (rightAccepted c f q d) _ _ (lit≤ tt) (lit≤ tt)
 
   confusing-which : 3 ≤ which (confusing c)
-  confusing-which = saying (λ v. 3 ≤ which v) (octetsOf (c .own) writing.confused) (λ o. confused o) (lit≤ tt) (λ o. lit≤ tt)
+  confusing-which = saying (λ v. 3 ≤ which v) (messageOctets (c .own) writing.confusedContent) (λ o. requestConfused o) (lit≤ tt) (λ o. lit≤ tt)
 
   -- where Requests are discarded, no message is accepted
   deaf-which : (k : Book) → ignores k ≡ true → (h : Heard) → 3 ≤ which (hearing c k h)
-  deaf-which k e hears.unreadable = lit≤ tt
-  deaf-which k e hears.otherRequest = rw e (lit≤ tt)
-  deaf-which k e (hears.request d) = rw e (lit≤ tt)
-  deaf-which idle e (hears.accepted d) = lit≤ tt
-  deaf-which (awaitSetup q) e (hears.accepted d) = taking-which none q d
-  deaf-which (up s b) e (hears.accepted d) = lit≤ tt
-  deaf-which (awaitChange s b q) e (hears.accepted d) = taking-which (some b) q d
-  deaf-which idle e hears.declined = lit≤ tt
-  deaf-which (awaitSetup q) e hears.declined = lit≤ tt
-  deaf-which (up s b) e hears.declined = lit≤ tt
-  deaf-which (awaitChange s b q) e hears.declined = lit≤ tt
+  deaf-which k e hears.nothingHeard = lit≤ tt
+  deaf-which k e hears.otherVersionHeard = rw e (lit≤ tt)
+  deaf-which k e (hears.requestHeard d) = rw e (lit≤ tt)
+  deaf-which idle e (hears.acceptedHeard d) = lit≤ tt
+  deaf-which (awaitSetup q) e (hears.acceptedHeard d) = taking-which none q d
+  deaf-which (up s b) e (hears.acceptedHeard d) = lit≤ tt
+  deaf-which (awaitChange s b q) e (hears.acceptedHeard d) = taking-which (some b) q d
+  deaf-which idle e hears.declineHeard = lit≤ tt
+  deaf-which (awaitSetup q) e hears.declineHeard = lit≤ tt
+  deaf-which (up s b) e hears.declineHeard = lit≤ tt
+  deaf-which (awaitChange s b q) e hears.declineHeard = lit≤ tt
 
   hearing-which : (k : Book) (h : Heard) → 2 ≤ which (hearing c k h)
-  hearing-which k hears.unreadable = lit≤ tt
-  hearing-which k hears.otherRequest = either (λ v. 2 ≤ which v) (ignores k) _ _ (lit≤ tt) (omega (arith, confusing-which))
-  hearing-which k (hears.request d) = either (λ v. 2 ≤ which v) (ignores k) _ _ (lit≤ tt) (judging-which (settled k) d)
-  hearing-which idle (hears.accepted d) = lit≤ tt
-  hearing-which (awaitSetup q) (hears.accepted d) = omega (arith, taking-which none q d)
-  hearing-which (up s b) (hears.accepted d) = lit≤ tt
-  hearing-which (awaitChange s b q) (hears.accepted d) = omega (arith, taking-which (some b) q d)
-  hearing-which idle hears.declined = lit≤ tt
-  hearing-which (awaitSetup q) hears.declined = lit≤ tt
-  hearing-which (up s b) hears.declined = lit≤ tt
-  hearing-which (awaitChange s b q) hears.declined = lit≤ tt
+  hearing-which k hears.nothingHeard = lit≤ tt
+  hearing-which k hears.otherVersionHeard = either (λ v. 2 ≤ which v) (ignores k) _ _ (lit≤ tt) (omega (arith, confusing-which))
+  hearing-which k (hears.requestHeard d) = either (λ v. 2 ≤ which v) (ignores k) _ _ (lit≤ tt) (judging-which (settled k) d)
+  hearing-which idle (hears.acceptedHeard d) = lit≤ tt
+  hearing-which (awaitSetup q) (hears.acceptedHeard d) = omega (arith, taking-which none q d)
+  hearing-which (up s b) (hears.acceptedHeard d) = lit≤ tt
+  hearing-which (awaitChange s b q) (hears.acceptedHeard d) = omega (arith, taking-which (some b) q d)
+  hearing-which idle hears.declineHeard = lit≤ tt
+  hearing-which (awaitSetup q) hears.declineHeard = lit≤ tt
+  hearing-which (up s b) hears.declineHeard = lit≤ tt
+  hearing-which (awaitChange s b q) hears.declineHeard = lit≤ tt
 
   -- ---- while a Request is open
   -- no command is taken
@@ -126,7 +126,7 @@ module _ (c : Configuration) where
   change-which s b q (message m) = omega (arith, hearing-which (awaitChange s b q) (heard m))
 
   -- no Request is accepted while a set-up is awaited
-  setup-no-accepted : (q : Stream) (e : Event) (a : Bearer) (o : List ℕ) → ruled c (awaitSetup q) e ≡ accepted a o → ⊥
+  setup-no-accepted : (q : Stream) (e : Event) (a : Bearer) (o : List ℕ) → ruled c (awaitSetup q) e ≡ requestRight a o → ⊥
   setup-no-accepted q (setUp n p t) a o h = omega (arith, ap which h)
   setup-no-accepted q (change n p t) a o h = omega (arith, ap which h)
   setup-no-accepted q release a o h = omega (arith, ap which h)
@@ -145,16 +145,16 @@ module _ (c : Configuration) where
 
   -- a Request that is accepted during a change of ours is accepted in up too
   hearing-same : (s : Side) (b : Bearer) (q : Stream) (m : Heard) (a : Bearer) (o : List ℕ)
-      → hearing c (awaitChange s b q) m ≡ accepted a o → hearing c (up s b) m ≡ accepted a o
+      → hearing c (awaitChange s b q) m ≡ requestRight a o → hearing c (up s b) m ≡ requestRight a o
   hearing-same I b q m a o h = absurd (apart _ _ 3 h (deaf-which (awaitChange I b q) refl m) (lit≤ tt))
-  hearing-same R b q hears.unreadable a o h = h
-  hearing-same R b q hears.otherRequest a o h = h
-  hearing-same R b q (hears.request d) a o h = h
-  hearing-same R b q (hears.accepted d) a o h = absurd (apart _ _ 3 h (taking-which (some b) q d) (lit≤ tt))
-  hearing-same R b q hears.declined a o h = absurd (omega (arith, ap which h))
+  hearing-same R b q hears.nothingHeard a o h = h
+  hearing-same R b q hears.otherVersionHeard a o h = h
+  hearing-same R b q (hears.requestHeard d) a o h = h
+  hearing-same R b q (hears.acceptedHeard d) a o h = absurd (apart _ _ 3 h (taking-which (some b) q d) (lit≤ tt))
+  hearing-same R b q hears.declineHeard a o h = absurd (omega (arith, ap which h))
 
   accepted-same : (s : Side) (b : Bearer) (q : Stream) (e : Event) (a : Bearer) (o : List ℕ)
-      → ruled c (awaitChange s b q) e ≡ accepted a o → ruled c (up s b) e ≡ accepted a o
+      → ruled c (awaitChange s b q) e ≡ requestRight a o → ruled c (up s b) e ≡ requestRight a o
   accepted-same s b q (setUp n p t) a o h = h
   accepted-same s b q (change n p t) a o h = absurd (omega (arith, ap which h))
   accepted-same s b q release a o h = h
@@ -170,37 +170,37 @@ module _ (c : Configuration) where
   silent : (x : Option Bearer) → Names x discarded
   silent x b h = absurd (Option·none-ne-some b h)
 
-  judging-names : (f d : Option Bearer) → Names (exchangeBy c (hears.request d)) (judging c f d)
+  judging-names : (f d : Option Bearer) → Names (exchangeBy c (hears.requestHeard d)) (judging c f d)
   judging-names f none =
-      saying (Names none) (octetsOf (c .own) writing.rejected) (λ o. rejected o) (silent none) (λ o. silent none)
+      saying (Names none) (messageOctets (c .own) writing.rejectedContent) (λ o. requestWrong o) (silent none) (λ o. silent none)
   judging-names f (some d) =
       either (Names (some (granted c d))) (rightRequest c f d) _ _
-      (saying (Names (some (granted c d))) (octetsOf (c .own) (writing.accepted (answerTo c d))) (λ o. accepted (granted c d) o) (silent (some (granted c d))) (λ o b h. h))
-      (saying (Names (some (granted c d))) (octetsOf (c .own) writing.rejected) (λ o. rejected o) (silent (some (granted c d))) (λ o. silent (some (granted c d))))
+      (saying (Names (some (granted c d))) (messageOctets (c .own) (writing.acceptedContent (acceptedFor c d))) (λ o. requestRight (granted c d) o) (silent (some (granted c d))) (λ o b h. h))
+      (saying (Names (some (granted c d))) (messageOctets (c .own) writing.rejectedContent) (λ o. requestWrong o) (silent (some (granted c d))) (λ o. silent (some (granted c d))))
 
   taking-names : (f : Option Bearer) (q : Stream) (d : Option Bearer) → Names d (taking c f q d)
   taking-names f q none = silent none
   taking-names f q (some d) = either (Names (some d)) (rightAccepted c f q d) _ _ (λ b h. h) (silent (some d))
 
   hearing-names : (k : Book) (h : Heard) → Names (exchangeBy c h) (hearing c k h)
-  hearing-names k hears.unreadable = silent none
-  hearing-names k hears.otherRequest =
-      either (Names none) (ignores k) _ _ (silent none) (saying (Names none) (octetsOf (c .own) writing.confused) (λ o. confused o) (silent none) (λ o. silent none))
-  hearing-names k (hears.request d) =
-      either (Names (exchangeBy c (hears.request d))) (ignores k) _ _ (silent (exchangeBy c (hears.request d))) (judging-names (settled k) d)
-  hearing-names idle (hears.accepted d) = silent d
-  hearing-names (awaitSetup q) (hears.accepted d) = taking-names none q d
-  hearing-names (up s b) (hears.accepted d) = silent d
-  hearing-names (awaitChange s b q) (hears.accepted d) = taking-names (some b) q d
-  hearing-names idle hears.declined = silent none
-  hearing-names (awaitSetup q) hears.declined = silent none
-  hearing-names (up s b) hears.declined = silent none
-  hearing-names (awaitChange s b q) hears.declined = silent none
+  hearing-names k hears.nothingHeard = silent none
+  hearing-names k hears.otherVersionHeard =
+      either (Names none) (ignores k) _ _ (silent none) (saying (Names none) (messageOctets (c .own) writing.confusedContent) (λ o. requestConfused o) (silent none) (λ o. silent none))
+  hearing-names k (hears.requestHeard d) =
+      either (Names (exchangeBy c (hears.requestHeard d))) (ignores k) _ _ (silent (exchangeBy c (hears.requestHeard d))) (judging-names (settled k) d)
+  hearing-names idle (hears.acceptedHeard d) = silent d
+  hearing-names (awaitSetup q) (hears.acceptedHeard d) = taking-names none q d
+  hearing-names (up s b) (hears.acceptedHeard d) = silent d
+  hearing-names (awaitChange s b q) (hears.acceptedHeard d) = taking-names (some b) q d
+  hearing-names idle hears.declineHeard = silent none
+  hearing-names (awaitSetup q) hears.declineHeard = silent none
+  hearing-names (up s b) hears.declineHeard = silent none
+  hearing-names (awaitChange s b q) hears.declineHeard = silent none
 
   commanding-names : (q : Option Stream) → Names none (commanding c q)
   commanding-names none = silent none
   commanding-names (some q) =
-      saying (Names none) (octetsOf (c .own) (writing.request q)) (λ o. opened q o) (silent none) (λ o. silent none)
+      saying (Names none) (messageOctets (c .own) (writing.requestContent q)) (λ o. opened q o) (silent none) (λ o. silent none)
 
   ruled-names : (k : Book) (e : Event) → Names (exchangedIn c e) (ruled c k e)
   ruled-names idle (setUp n p t) = commanding-names (commanded c n p t)

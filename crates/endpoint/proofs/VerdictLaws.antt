@@ -5,7 +5,7 @@ use Prim.Native.Nat.{ℕ}
 use mathlib.Core.Path.{_≡_, refl, _∙_, ap}
 use mathlib.Core.Bool.{Bool, true, false}
 use mathlib.Core.List.{List}
-use lib.ListN.{length}
+use lib.ListN.{length, replicate}
 use native.Mathlib.Omega.{arith}
 use borrow.Author.Tests.{le-leb}
 use Rattle.book.specs.declared.State.{State}
@@ -14,24 +14,25 @@ use Rattle.book.specs.declared.Side.{Side}
 use Rattle.book.specs.declared.Side.the-variants.{I, R}
 use Rattle.book.specs.declared.Notice.{Notice}
 use Rattle.book.specs.declared.Notice
-use Rattle.book.specs.Book.{discarded, opened, agreed, failed, released, confused, accepted, rejected}
+use Rattle.book.specs.Book.{discarded, opened, agreed, failed, released, requestConfused, requestRight, requestWrong}
 use Rattle.book.specs.Book.{closed, opening, settling, stateOf, settled, ignores, byBearer, drops}
 use Rattle.book.specs.States.{closedState, openedState, settledSide, byState, holdsAt, dropsAt, ignoresAt}
 use Rattle.media.specs.declared.Stream.{Stream as Places}
 use Rattle.media.specs.Stream.{Stream}
-use Rattle.media.specs.Meaning.{barePlaces, spansOf, allIn, streamInside}
-use Rattle.address.specs.declared.Address.{Address}
+use Rattle.media.specs.Meaning.{spansOf, allIn, streamInside}
+use Rattle.address.specs.declared.Address.the-variants.{V4}
+use Rattle.ipbcp.specs.Reading.{mostRead}
 use Rattle.configuration.specs.declared.Config.{Config}
 use Rattle.configuration.specs.declared.Checked.{Checked}
 use Rattle.configuration.specs.Meaning.{checked}
 use Rattle.bearer.specs.declared.Request as ours
 use Rattle.bearer.specs.declared.Bearer as held
 use Rattle.bearer.specs.Bearer.{Bearer}
-use Rattle.bearer.specs.Meaning.{requestBy, bearerBy, requestInside, bearerInside, heldIf}
+use Rattle.bearer.specs.Meaning.{mostOffered, requestBy, bearerBy, requestInside, bearerInside, bearerIf}
 use Rattle.endpoint.specs.declared.Endpoint.{Endpoint}
 use Rattle.endpoint.specs.declared.Reply.the-variants.{Done}
-use Rattle.endpoint.specs.Call.{Opens}
-use Rattle.endpoint.specs.Step.{bookBy, bookOf, Same, Silent, Says}
+use Rattle.endpoint.specs.Step.{bookBy, bookOf, Inside, blankStream, freshEndpoint, Creates}
+use Rattle.endpoint.specs.Private.{Same, Silent, Says}
 
 -- ---- the book's functions, read on the state and the side
 closed-by : (st : State) (s : Side) (q : Stream) (b : Bearer) → bookBy (closedState st) s q b ≡ closed (bookBy st s q b)
@@ -70,7 +71,7 @@ drops-by AwaitSetup s q b = refl
 drops-by Up s q b = refl
 drops-by AwaitChange s q b = refl
 
-pub held-by : (st : State) (s : Side) (q : Stream) (b : Bearer) → heldIf (holdsAt st) b ≡ settled (bookBy st s q b)
+pub held-by : (st : State) (s : Side) (q : Stream) (b : Bearer) → bearerIf (holdsAt st) b ≡ settled (bookBy st s q b)
 held-by Idle s q b = refl
 held-by AwaitSetup s q b = refl
 held-by Up s q b = refl
@@ -154,22 +155,35 @@ module _ (self : Endpoint) where
       → Same self e (opening q (bookOf self)) → Says self (λ o. opened q o) w (record { endpoint = e; reply = Done s Notice.None w false })
   gave-opened q w e s p h o xs l = record { config = h .config; book = h .book; reply = cc (after-open q); out = refl; unaltered = tt; inside = h .inside }
 
-  pub gave-confused : (w : ℕ) → Says self (λ o. confused o) w (record { endpoint = self; reply = Done (self .state) Notice.Confused w false })
+  pub gave-confused : (w : ℕ) → Says self (λ o. requestConfused o) w (record { endpoint = self; reply = Done (self .state) Notice.Confused w false })
   gave-confused w o xs l = record { config = refl; book = refl; reply = cc here; out = refl; unaltered = refl; inside = λ i. i }
 
   pub gave-accepted : (b : Bearer) (w : ℕ) (e : Endpoint) (n : Notice) (d : Bool) → n ≡ byState (self .state) Notice.Up Notice.Changed → d ≡ dropsAt (self .state)
-      → Same self e (settling b (bookOf self)) → Says self (λ o. accepted b o) w (record { endpoint = e; reply = Done Up n w d })
+      → Same self e (settling b (bookOf self)) → Says self (λ o. requestRight b o) w (record { endpoint = e; reply = Done Up n w d })
   gave-accepted b w e n d p q h o xs l = record { config = h .config; book = h .book; reply = cc (noticed Notice.Up Notice.Changed, dropped); out = refl; unaltered = tt; inside = h .inside }
 
   pub gave-rejected : (w : ℕ) (e : Endpoint) (s : State) (d : Bool) → s ≡ closedState (self .state) → d ≡ dropsAt (self .state)
-      → Same self e (closed (bookOf self)) → Says self (λ o. rejected o) w (record { endpoint = e; reply = Done s Notice.Rejected w d })
+      → Same self e (closed (bookOf self)) → Says self (λ o. requestWrong o) w (record { endpoint = e; reply = Done s Notice.Rejected w d })
   gave-rejected w e s d p q h o xs l = record { config = h .config; book = h .book; reply = cc (after-close, dropped); out = refl; unaltered = tt; inside = h .inside }
 
--- ---- a fresh endpoint, whose streams s say nothing
-pub blank-inside : (s : Places) → s ≡ barePlaces (record { at = 0; len = 0 }) 0 (record { at = 0; len = 0 }) 0 → (m : List ℕ) → streamInside m s ≡ true
+-- ---- a fresh endpoint
+blank-inside : (m : List ℕ) → streamInside m blankStream ≡ true
 unfolding spansOf allIn streamInside
-blank-inside s e m = rw (e, le-leb 0 (length m) (omega arith))
+blank-inside m = rw (le-leb 0 (length m) (omega arith))
 
-pub opens : (c : Config) (x : Checked) (i : Side) (a : Address) (s : Places) (xs ys : List ℕ) → x ≡ checked c → ((m : List ℕ) → streamInside m s ≡ true)
-    → Opens c (record { checked = x; endpoint = record { config = c; state = Idle; side = i; request = record { stream = s; text = xs }; bearer = record { address = a; stream = s; text = ys } } })
-opens c x i a s xs ys e h = record { checked = e; config = refl; idle = refl; inside = record { request = h xs; bearer = h ys } }
+-- its texts are empty, and lie inside any array
+pub fresh-inside : (c : Config) → Inside (freshEndpoint c)
+fresh-inside c = record { request = blank-inside _; bearer = blank-inside _ }
+
+pub creates : (c : Config) (x : Checked) (s : Places) → x ≡ checked c → s ≡ blankStream
+    → Creates c (record {
+      checked = x;
+      endpoint = record {
+        config = c;
+        state = Idle;
+        side = I;
+        request = record { stream = s; text = replicate mostOffered 0 };
+        bearer = record { address = V4 0; stream = s; text = replicate mostRead 0 };
+      };
+    })
+creates c x s e h = record { checked = e; endpoint = rw h }

@@ -5,8 +5,8 @@ use mathlib.Core.Bool.{true}
 use mathlib.Core.List.{List, [], _∷_, _++_, map, Sublistᴰ}
 use lib.ListN.{length, take}
 use Rattle.book.specs.declared.State.the-variants.{Idle}
-use Rattle.book.specs.Book.{settled, refusal, answer}
-use Rattle.book.specs.Book as told
+use Rattle.book.specs.Book.{settled, refusal, done}
+use Rattle.book.specs.Book as book
 use Rattle.book.specs.Strike as strike
 use Rattle.book.specs.Strike.{undropped, eventsOf, logOf, keptOf, lastSettled}
 use Rattle.configuration.specs.declared.Config.{Config}
@@ -20,24 +20,24 @@ use Rattle.endpoint.specs.Rule.{Event, Given, rule, exchanged}
 use Rattle.endpoint.specs.Step.{bookOf, Did}
 
 -- a line of the run: an event with the length of its buffer, what the caller is told, and the bearer then in force
-abbrev pub Line : Type 0
-Line = strike.Line Bearer Given
+abbrev pub LogLine : Type 0
+LogLine = strike.LogLine Bearer Given
 
 -- what the caller is told: the reply, with the octets that stand at the front of the output buffer
-abbrev pub toldBy : Reply → List ℕ → told.Answer
-toldBy (Refused n) out = refusal n
-toldBy (Done s n w d) out = answer s n (take w out) d
+abbrev pub replyBy : Reply → List ℕ → book.Reply
+replyBy (Refused n) out = refusal n
+replyBy (Done s n w d) out = done s n (take w out) d
 
 -- what is seen of one event, whose buffer held `before` and then `after`
-abbrev pub seen : Event → List ℕ → List ℕ → Answer → Line
-seen x before after r = record { event = record { event = x; room = length before }; reply = toldBy (r .reply) after; bearer = settled (bookOf (r .endpoint)) }
+abbrev pub seen : Event → List ℕ → List ℕ → Answer → LogLine
+seen x before after r = record { event = record { event = x; room = length before }; reply = replyBy (r .reply) after; bearer = settled (bookOf (r .endpoint)) }
 
 -- The endpoint e, given the events one after another, each with a buffer of its own, shows the lines and becomes f. Each step is
 -- what the contract of the event's method says, `Did`: so this speaks of every run of the code. Every method returns whatever it is
 -- given, so there is a run through every list of events.
-pub data Runs (e : Endpoint) : List Given → List Line → Endpoint → Type 0 where
+pub data Runs (e : Endpoint) : List Given → List LogLine → Endpoint → Type 0 where
   begun : Runs e [] [] e
-  after : {gs : List Given} {ls : List Line} {f : Endpoint} → Runs e gs ls f → (x : Event) (buffer out : List ℕ) (r : Answer) → Did f x buffer out r
+  after : {gs : List Given} {ls : List LogLine} {f : Endpoint} → Runs e gs ls f → (x : Event) (buffer out : List ℕ) (r : Answer) → Did f x buffer out r
       → Runs e (gs ++ (record { event = x; room = length buffer } ∷ [])) (ls ++ (seen x buffer out r ∷ [])) (r .endpoint)
 
 -- e is a fresh endpoint of the configuration c, which is not refused
@@ -47,19 +47,19 @@ pub record Fresh (c : Config) (e : Endpoint) : Type 0 where
   pub idle : e .state ≡ Idle
 
 -- the lines of a run by the book that no failed attempt takes
-abbrev pub kept : Config → List Given → List Line
+abbrev pub kept : Config → List Given → List LogLine
 kept c gs = keptOf (rule (configurationBy c)) gs
 
 -- the claim on the run of a fresh endpoint through the events gs, which showed the lines ls and left f
-pub record Demand3 (c : Config) (gs : List Given) (ls : List Line) (f : Endpoint) : Type 0 where
+pub record Demand3 (c : Config) (gs : List Given) (ls : List LogLine) (f : Endpoint) : Type 0 where
   -- each event's answer is the one that the book gives, which is fed the configuration, the events and the buffers' lengths alone
   pub by-book : ls ≡ logOf (rule (configurationBy c)) gs .lines
   -- what is left when each failed attempt is struck out are lines of this run, in its order
   pub part : Sublistᴰ (kept c gs) ls
   -- another fresh endpoint, given the events that are left, shows the same lines, each with the same bearer in force after it;
   -- none of them drops a change of ours, since a change that was dropped is struck
-  pub same-lines : (e′ : Endpoint) (ls′ : List Line) (f′ : Endpoint) → Fresh c e′ → Runs e′ (eventsOf (kept c gs)) ls′ f′ → ls′ ≡ map undropped (kept c gs)
+  pub same-lines : (e′ : Endpoint) (ls′ : List LogLine) (f′ : Endpoint) → Fresh c e′ → Runs e′ (eventsOf (kept c gs)) ls′ f′ → ls′ ≡ map undropped (kept c gs)
   -- and is left with the same bearer in force
-  pub same-bearer : (e′ : Endpoint) (ls′ : List Line) (f′ : Endpoint) → Fresh c e′ → Runs e′ (eventsOf (kept c gs)) ls′ f′ → settled (bookOf f′) ≡ settled (bookOf f)
+  pub same-bearer : (e′ : Endpoint) (ls′ : List LogLine) (f′ : Endpoint) → Fresh c e′ → Runs e′ (eventsOf (kept c gs)) ls′ f′ → settled (bookOf f′) ≡ settled (bookOf f)
   -- the bearer in force is that of the last successful exchange since the last release that was not refused
   pub in-force : settled (bookOf f) ≡ lastSettled (exchanged (configurationBy c)) ls

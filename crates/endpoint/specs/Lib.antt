@@ -3,6 +3,6 @@
 -- `Promises` is what else can be quoted.
 pub mod Rule
 pub mod Step
-pub mod Call
 pub mod Demand
 pub mod Promises
+pub mod Private

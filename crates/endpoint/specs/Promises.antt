@@ -11,13 +11,12 @@ use Rattle.book.specs.declared.Notice.{Notice}
 use Rattle.book.specs.declared.Notice
 use Rattle.book.specs.Book.{settled, closed, settling, stateOf, byBearer, drops}
 use Rattle.ipbcp.specs.Reading.{readMessage}
-use Rattle.ipbcp.specs.Writing as writing
-use Rattle.ipbcp.specs.Writing.{messageText}
+use Rattle.ipbcp.specs.Writing.{Content, acceptedContent, confusedContent, rejectedContent, messageText}
 use Rattle.configuration.specs.Meaning.{configurationBy}
 use Rattle.media.specs.Stream.{Stream}
 use Rattle.bearer.specs.Bearer.{Bearer}
 use Rattle.bearer.specs.Hearing.{bearerIn}
-use Rattle.bearer.specs.Judging.{rightRequest, granted, answerTo, rightAccepted}
+use Rattle.bearer.specs.Judging.{rightRequest, granted, acceptedFor, rightAccepted}
 use Rattle.endpoint.specs.declared.Endpoint.{Endpoint}
 use Rattle.endpoint.specs.declared.Answer.{Answer}
 use Rattle.endpoint.specs.declared.Reply.the-variants.{Done}
@@ -53,7 +52,7 @@ abbrev pub isRightRequest : Endpoint → List ℕ → Bool
 isRightRequest self m = rightIn (rightRequest (configurationBy (self .config)) (settled (bookOf self))) (bearerIn (readMessage m))
 
 -- the octets of a message stand at the front of the buffer, and the reply has their number, this state and this notice
-pub record Answers (self : Endpoint) (content : writing.Content) (before after : List ℕ) (r : Answer) (s : State) (n : Notice) : Type 0 where
+pub record Answers (self : Endpoint) (content : Content) (before after : List ℕ) (r : Answer) (s : State) (n : Notice) : Type 0 where
   pub out : after ≡ written (messageText (self .config .own) content) before
   pub reply : r .reply ≡ Done s n (length (messageText (self .config .own) content)) (drops (bookOf self))
 
@@ -61,12 +60,12 @@ pub record Answers (self : Endpoint) (content : writing.Content) (before after :
 pub record Judges (self : Endpoint) (m before after : List ℕ) (r : Answer) : Type 0 where
   pub right : (d : Bearer) → bearerIn (readMessage m) ≡ some d → isRightRequest self m ≡ true
       → (bookOf (r .endpoint) ≡ settling (granted (configurationBy (self .config)) d) (bookOf self))
-      × Answers self (writing.accepted (answerTo (configurationBy (self .config)) d)) before after r Up (byBearer (bookOf self) Notice.Up Notice.Changed)
+      × Answers self (acceptedContent (acceptedFor (configurationBy (self .config)) d)) before after r Up (byBearer (bookOf self) Notice.Up Notice.Changed)
   pub wrong : isRightRequest self m ≡ false
-      → (bookOf (r .endpoint) ≡ closed (bookOf self)) × Answers self writing.rejected before after r (stateOf (closed (bookOf self))) Notice.Rejected
+      → (bookOf (r .endpoint) ≡ closed (bookOf self)) × Answers self rejectedContent before after r (stateOf (closed (bookOf self))) Notice.Rejected
 
 -- a Request of another version is answered Confused, and alters nothing
 pub record Confuses (self : Endpoint) (before after : List ℕ) (r : Answer) : Type 0 where
   pub endpoint : r .endpoint ≡ self
-  pub out : after ≡ written (messageText (self .config .own) writing.confused) before
-  pub reply : r .reply ≡ Done (stateOf (bookOf self)) Notice.Confused (length (messageText (self .config .own) writing.confused)) false
+  pub out : after ≡ written (messageText (self .config .own) confusedContent) before
+  pub reply : r .reply ≡ Done (stateOf (bookOf self)) Notice.Confused (length (messageText (self .config .own) confusedContent)) false

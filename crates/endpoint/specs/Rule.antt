@@ -6,23 +6,21 @@ use mathlib.Core.List.{List}
 use mathlib.Core.Option.{Option, none, some}
 use lib.Dec.{ltb}
 use Rattle.book.specs.Book.{idle, awaitSetup, up, awaitChange, settled, awaited, ignores}
-use Rattle.book.specs.Book as told
-use Rattle.book.specs.Book.{refused, discarded, opened, agreed, failed, released, confused, accepted, rejected}
+use Rattle.book.specs.Book as book
+use Rattle.book.specs.Book.{refused, discarded, opened, agreed, failed, released, requestConfused, requestRight, requestWrong}
 use Rattle.media.specs.Stream.{Stream}
-use Rattle.ipbcp.specs.Writing as writing
-use Rattle.ipbcp.specs.Writing.{octetsOf}
+use Rattle.ipbcp.specs.Writing.{requestContent, acceptedContent, confusedContent, rejectedContent, messageOctets}
 use Rattle.configuration.specs.Configuration.{Configuration}
 use Rattle.bearer.specs.Bearer.{Bearer}
-use Rattle.bearer.specs.Hearing as hears
-use Rattle.bearer.specs.Hearing.{Heard, heard}
-use Rattle.bearer.specs.Judging.{commanded, rightRequest, granted, answerTo, rightAccepted}
+use Rattle.bearer.specs.Hearing.{Heard, nothingHeard, otherVersionHeard, requestHeard, acceptedHeard, declineHeard, heard}
+use Rattle.bearer.specs.Judging.{commanded, rightRequest, granted, acceptedFor, rightAccepted}
 
 -- a Request of ours is what its media line and its attributes say
 abbrev pub Book : Type 0
-Book = told.Book Bearer Stream
+Book = book.Book Bearer Stream
 
 abbrev pub Verdict : Type 0
-Verdict = told.Verdict Bearer Stream
+Verdict = book.Verdict Bearer Stream
 
 pub data Event : Type 0 where
   -- set-up and change name a codec entry, a payload and a packet time
@@ -46,17 +44,17 @@ said (some o) v = v o
 -- in the state that it suits, a command writes its Request; number 5 where it has none
 abbrev pub commanding : Configuration → Option Stream → Verdict
 commanding c none = refused 5
-commanding c (some q) = said (octetsOf (c .own) (writing.request q)) (λ o. opened q o)
+commanding c (some q) = said (messageOctets (c .own) (requestContent q)) (λ o. opened q o)
 
 -- ---- a peer's Request, where it is not discarded; force is the bearer in force
 abbrev pub confusing : Configuration → Verdict
-confusing c = said (octetsOf (c .own) writing.confused) (λ o. confused o)
+confusing c = said (messageOctets (c .own) confusedContent) (λ o. requestConfused o)
 
 abbrev pub rejecting : Configuration → Verdict
-rejecting c = said (octetsOf (c .own) writing.rejected) (λ o. rejected o)
+rejecting c = said (messageOctets (c .own) rejectedContent) (λ o. requestWrong o)
 
 abbrev pub accepting : Configuration → Bearer → Verdict
-accepting c d = said (octetsOf (c .own) (writing.accepted (answerTo c d))) (λ o. accepted (granted c d) o)
+accepting c d = said (messageOctets (c .own) (acceptedContent (acceptedFor c d))) (λ o. requestRight (granted c d) o)
 
 -- right: Accepted. Wrong, or not to be read to its end: Rejected
 abbrev pub judging : Configuration → Option Bearer → Option Bearer → Verdict
@@ -77,11 +75,11 @@ answering (some q) v = v q
 -- A version 1 Request in awaiting change at R drops our attempt first: it is judged as in up, by the bearer in force, and what
 -- becomes of the open Request is the book's (`moved`, `drops`).
 abbrev pub hearing : Configuration → Book → Heard → Verdict
-hearing c k hears.unreadable = discarded
-hearing c k hears.otherRequest = cond (ignores k) discarded (confusing c)
-hearing c k (hears.request d) = cond (ignores k) discarded (judging c (settled k) d)
-hearing c k (hears.accepted d) = answering (awaited k) (λ q. taking c (settled k) q d)
-hearing c k hears.declined = answering (awaited k) (λ q. failed)
+hearing c k nothingHeard = discarded
+hearing c k otherVersionHeard = cond (ignores k) discarded (confusing c)
+hearing c k (requestHeard d) = cond (ignores k) discarded (judging c (settled k) d)
+hearing c k (acceptedHeard d) = answering (awaited k) (λ q. taking c (settled k) q d)
+hearing c k declineHeard = answering (awaited k) (λ q. failed)
 
 -- ---- every event, where the output buffer is long enough: 11 comes before 5
 abbrev pub ruled : Configuration → Book → Event → Verdict
@@ -121,11 +119,11 @@ grantedIn c none = none
 grantedIn c (some d) = some (granted c d)
 
 abbrev pub exchangeBy : Configuration → Heard → Option Bearer
-exchangeBy c hears.unreadable = none
-exchangeBy c hears.otherRequest = none
-exchangeBy c (hears.request d) = grantedIn c d
-exchangeBy c (hears.accepted d) = d
-exchangeBy c hears.declined = none
+exchangeBy c nothingHeard = none
+exchangeBy c otherVersionHeard = none
+exchangeBy c (requestHeard d) = grantedIn c d
+exchangeBy c (acceptedHeard d) = d
+exchangeBy c declineHeard = none
 
 abbrev pub exchangedIn : Configuration → Event → Option Bearer
 exchangedIn c (setUp entry payload ptime) = none

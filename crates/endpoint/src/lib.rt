@@ -4,13 +4,8 @@ mod messages;
 mod timers;
 mod verdicts;
 
-ghost use Prim.Native.Nat.{ℕ};
 ghost use mathlib.Core.Path.{_≡_};
-ghost use mathlib.Core.List.{List};
-ghost use mathlib.Core.Bool.{true};
-ghost use Rattle.media.specs.Meaning.{streamInside};
-ghost use Rattle.endpoint.specs.Step.{Did};
-ghost use Rattle.endpoint.specs.Call.{eventOf, Opens};
+ghost use Rattle.endpoint.specs.Step.{blankStream, Creates, eventBy, Did};
 use address::Address;
 use bearer::Bearer;
 use bearer::MOST_OFFERED;
@@ -57,7 +52,7 @@ pub struct Answer {
 }
 
 // An event as a value, for `handle`; the octets of a message stand beside it.
-pub enum Call {
+pub enum Event {
     // A codec entry, counted from 1, a payload and a packet time.
     SetUp(u16, u16, u16),
     Change(u16, u16, u16),
@@ -68,14 +63,14 @@ pub enum Call {
 }
 
 // The answer to a configuration, and a fresh endpoint with it, which is not to be used where the configuration is refused.
-pub struct Opening {
+pub struct Created {
     pub checked: Checked,
     pub endpoint: Endpoint,
 }
 
 // A stream that says nothing.
 fn blank_stream() -> Stream
-    ensures { λ r. ⌜ ((m : List ℕ) → streamInside m r ≡ true) ⌝ }
+    ensures { λ r. ⌜ r ≡ blankStream ⌝ }
 {
     let none = Span { at: 0, len: 0 };
     media::bare(none, 0, none, 0)
@@ -83,14 +78,14 @@ fn blank_stream() -> Stream
 
 impl Endpoint {
     // A fresh endpoint of the configuration, or document 01's number for one that can't be used.
-    pub fn new(config: Config) -> Opening
-        ensures { λ r. ⌜ Opens config r ⌝ }
+    pub fn new(config: Config) -> Created
+        ensures { λ r. ⌜ Creates config r ⌝ }
     {
         let stream = blank_stream();
         let offered = [0u8; MOST_OFFERED];
         let text = [0u8; MOST_READ];
         let checked = check(config);
-        Opening {
+        Created {
             checked,
             endpoint: Endpoint {
                 config,
@@ -109,17 +104,17 @@ impl Endpoint {
         }
     }
 
-    // Every event in one way: m is the message of `Call::Message`, and counts for no other call.
-    pub fn handle(self, call: Call, m: &[u8], out: &mut [u8]) -> Answer
-        ensures { λ r. ⌜ Did self (eventOf call (now (m .entry))) (now (out .entry)) (now (out .exit)) r ⌝ }
+    // Every event in one way: m is the message of `Event::Message`, and counts for no other event.
+    pub fn handle(self, event: Event, m: &[u8], out: &mut [u8]) -> Answer
+        ensures { λ r. ⌜ Did self (eventBy event (now (m .entry))) (now (out .entry)) (now (out .exit)) r ⌝ }
     {
-        match call {
-            Call::SetUp(entry, payload, ptime) => self.set_up(entry, payload, ptime, out),
-            Call::Change(entry, payload, ptime) => self.change(entry, payload, ptime, out),
-            Call::Release => self.release(out),
-            Call::T1 => self.expire_t1(out),
-            Call::T2 => self.expire_t2(out),
-            Call::Message => self.message(m, out),
+        match event {
+            Event::SetUp(entry, payload, ptime) => self.set_up(entry, payload, ptime, out),
+            Event::Change(entry, payload, ptime) => self.change(entry, payload, ptime, out),
+            Event::Release => self.release(out),
+            Event::T1 => self.expire_t1(out),
+            Event::T2 => self.expire_t2(out),
+            Event::Message => self.message(m, out),
         }
     }
 }

@@ -7,7 +7,8 @@ ghost use Rattle.bearer.specs.Hearing as hears;
 ghost use Rattle.bearer.specs.Meaning.{namedBy};
 ghost use Rattle.configuration.specs.Meaning.{configurationBy};
 ghost use Rattle.endpoint.specs.Rule.{Event, answering, confusing, rejecting, accepting, hearing, leastRoom};
-ghost use Rattle.endpoint.specs.Step.{bookOf, Gave, Silent, Did, Readable, Answerable};
+ghost use Rattle.endpoint.specs.Step.{bookOf, Gave, Did};
+ghost use Rattle.endpoint.specs.Private.{Silent, Readable, Answerable};
 use crate::Answer;
 use crate::Endpoint;
 use crate::LEAST_ROOM;
@@ -37,7 +38,7 @@ impl Endpoint {
         let own = config.own;
         let put = write_message(Body::Confused, own, b"", out);
         match put {
-            Put::Octets(n) => self.confused(n),
+            Put::Octets(n) => self.request_confused(n),
             Put::Refused(n) => self.refused(n),
         }
     }
@@ -51,7 +52,7 @@ impl Endpoint {
         let own = config.own;
         let put = write_message(Body::Rejected, own, b"", out);
         match put {
-            Put::Octets(n) => self.rejected(n),
+            Put::Octets(n) => self.request_wrong(n),
             Put::Refused(n) => self.refused(n),
         }
     }
@@ -68,7 +69,7 @@ impl Endpoint {
         let answer = restate(s, config.port, ptime);
         let put = write_message(Body::Accepted(answer), own, m, out);
         match put {
-            Put::Octets(n) => self.accepted(bearer, n),
+            Put::Octets(n) => self.request_right(bearer, n),
             Put::Refused(n) => self.refused(n),
         }
     }
@@ -76,7 +77,7 @@ impl Endpoint {
     // A Request of another version.
     fn hear_other(self, out: &mut [u8]) -> Answer
         requires { ⌜ leastRoom ≤ length (now out) ⌝ }
-        ensures { λ r. ⌜ Gave self (hearing (configurationBy (self .config)) (bookOf self) hears.otherRequest) (now (out .entry)) (now (out .exit)) r ⌝ }
+        ensures { λ r. ⌜ Gave self (hearing (configurationBy (self .config)) (bookOf self) hears.otherVersionHeard) (now (out .entry)) (now (out .exit)) r ⌝ }
     {
         let state = self.state;
         let side = self.side;
@@ -89,7 +90,7 @@ impl Endpoint {
     // A Request that can't be read to its end.
     fn hear_bad(self, out: &mut [u8]) -> Answer
         requires { ⌜ leastRoom ≤ length (now out) ⌝ }
-        ensures { λ r. ⌜ Gave self (hearing (configurationBy (self .config)) (bookOf self) (hears.request none)) (now (out .entry)) (now (out .exit)) r ⌝ }
+        ensures { λ r. ⌜ Gave self (hearing (configurationBy (self .config)) (bookOf self) (hears.requestHeard none)) (now (out .entry)) (now (out .exit)) r ⌝ }
     {
         let state = self.state;
         let side = self.side;
@@ -102,7 +103,7 @@ impl Endpoint {
     // A Request with this address and stream, whose texts are in m.
     fn hear_request(self, address: Address, s: Stream, m: &[u8], out: &mut [u8]) -> Answer
         requires { ⌜ Answerable (now m) s (now out) ⌝ }
-        ensures { λ r. ⌜ Gave self (hearing (configurationBy (self .config)) (bookOf self) (hears.request (some (namedBy (now (m .entry)) address s)))) (now (out .entry)) (now (out .exit)) r ⌝ }
+        ensures { λ r. ⌜ Gave self (hearing (configurationBy (self .config)) (bookOf self) (hears.requestHeard (some (namedBy (now (m .entry)) address s)))) (now (out .entry)) (now (out .exit)) r ⌝ }
     {
         let state = self.state;
         let side = self.side;
@@ -120,7 +121,7 @@ impl Endpoint {
     // An Accepted with this address and stream, whose texts are in m.
     fn hear_accepted(self, address: Address, s: Stream, m: &[u8]) -> Answer
         requires { ⌜ Readable (now m) s ⌝ }
-        ensures { λ r. ⌜ Silent self (hearing (configurationBy (self .config)) (bookOf self) (hears.accepted (some (namedBy (now (m .entry)) address s)))) r ⌝ }
+        ensures { λ r. ⌜ Silent self (hearing (configurationBy (self .config)) (bookOf self) (hears.acceptedHeard (some (namedBy (now (m .entry)) address s)))) r ⌝ }
     {
         let state = self.state;
         if awaits(state) {

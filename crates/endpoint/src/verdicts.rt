@@ -3,7 +3,8 @@ ghost use Rattle.book.specs.Book.{closed, opening, settling, Verdict};
 ghost use mathlib.Core.Path.{_≡_};
 ghost use mathlib.Core.Bool.{true};
 ghost use Rattle.bearer.specs.Meaning.{requestBy, bearerBy, requestInside, bearerInside};
-ghost use Rattle.endpoint.specs.Step.{bookOf, Same, Silent, Says};
+ghost use Rattle.endpoint.specs.Step.{bookOf};
+ghost use Rattle.endpoint.specs.Private.{Same, Silent, Says};
 use crate::Answer;
 use crate::Endpoint;
 use crate::Reply;
@@ -181,8 +182,8 @@ impl Endpoint {
     }
 
     // A Confused was written.
-    pub(crate) fn confused(self, written: usize) -> Answer
-        ensures { λ r. ⌜ Says self (λ o. Verdict.confused o) written r ⌝ }
+    pub(crate) fn request_confused(self, written: usize) -> Answer
+        ensures { λ r. ⌜ Says self (λ o. Verdict.requestConfused o) written r ⌝ }
     {
         let state = self.state;
         Answer {
@@ -197,9 +198,9 @@ impl Endpoint {
     }
 
     // An Accepted was written.
-    pub(crate) fn accepted(self, bearer: Bearer, written: usize) -> Answer
+    pub(crate) fn request_right(self, bearer: Bearer, written: usize) -> Answer
         requires { ⌜ bearerInside bearer ≡ true ⌝ }
-        ensures { λ r. ⌜ Says self (λ o. Verdict.accepted (bearerBy bearer) o) written r ⌝ }
+        ensures { λ r. ⌜ Says self (λ o. Verdict.requestRight (bearerBy bearer) o) written r ⌝ }
     {
         let state = self.state;
         let notice = by_state(state, Notice::Up, Notice::Changed);
@@ -217,8 +218,8 @@ impl Endpoint {
     }
 
     // A Rejected was written.
-    pub(crate) fn rejected(self, written: usize) -> Answer
-        ensures { λ r. ⌜ Says self (λ o. Verdict.rejected o) written r ⌝ }
+    pub(crate) fn request_wrong(self, written: usize) -> Answer
+        ensures { λ r. ⌜ Says self (λ o. Verdict.requestWrong o) written r ⌝ }
     {
         let state = self.state;
         let after = closed_state(state);

@@ -9,16 +9,16 @@ use mathlib.Core.Option.{Option, none, some, Option·elim}
 use Rattle.octets.specs.Split.{onFirst, splitOn}
 use Rattle.octets.specs.Decimal.{isDigit, allDigits, valueFrom, shortest, numberFrom, readNumber, onNumber}
 use Rattle.codes.specs.Codes.{isAction}
-use Rattle.bat.specs.Framing.{Length, sized, unsized, lengthOf, unmarked, head, whole, countedBy, elementBy, sizedBy, front, onFront, walkFrom, walk, fold, elements, roomFor, cut}
-use Rattle.bat.specs.Values.{Diagnostic, action, ituCodec, rightCodec, actionIn, withCodec, onCodecs, isSingle, codecThen, codecsIn, codecListIn, reading}
-use Rattle.bat.specs.Judging.{indexBy, secondChoice, outcomeOf, noticeOf, judgement, Verdict, known, unknown, verdictBy, verdict, Answer, refusedData, judged, judgedBy, judgedData}
+use Rattle.bat.specs.Framing.{Length, sized, unsized, lengthOf, unmarked, header, whole, countedBy, elementBy, sizedBy, front, onFront, walkFrom, walk, fold, elements, roomFor, cut}
+use Rattle.bat.specs.Values.{Diagnostic, action, ituCodec, rightSingle, actionIn, withSingle, onCodecs, isSingle, codecThen, codecsIn, codecListIn, decoding}
+use Rattle.bat.specs.Judging.{indexBy, secondChoice, outcomeOf, noticeOf, judgement, Finding, known, unknown, findingBy, finding, JudgedData, refusedData, judgedElements, judgedBy, judgedData}
 use Rattle.address.specs.declared.Address.the-variants.{V4}
 use Rattle.address.specs.declared.Parsed.{Parsed}
 use Rattle.address.specs.declared.Parsed.the-variants.{Unicast, Unreadable}
 use Rattle.address.specs.Kinds.{isUnicast, kind4}
 use Rattle.address.specs.Parts.{allParts, inBase}
 use Rattle.address.specs.Ipv4.{isOctet, octetValue, isDotted, dottedValue, readV4}
-use Rattle.bctp.specs.Packet.{rightFirst, rightSecond, hasError, versionOf, protocolOf, versionIndicator, protocolIndicator, Opened, reply, openedBy, opened}
+use Rattle.bctp.specs.Packet.{rightFirst, rightSecond, hasError, versionOf, protocolOf, versionIndicator, protocolIndicator, Opened, tunnelReply, openedBy, openedPacket}
 
 -- what the number of a length field is, if it is one
 lengthNumber : Length → Option ℕ
@@ -26,14 +26,14 @@ lengthNumber (sized octets n rest) = some n
 lengthNumber unsized = none
 
 -- the diagnostics of unrecognised elements, listed or not
-diagnostics : List Verdict → List Diagnostic
+diagnostics : List Finding → List Diagnostic
 diagnostics [] = []
 diagnostics (known v ∷ vs) = diagnostics vs
 diagnostics (unknown j ∷ vs) = j .diagnostic ∷ diagnostics vs
 
-diagnosed : Answer → Option (List Diagnostic)
+diagnosed : JudgedData → Option (List Diagnostic)
 diagnosed (refusedData n) = none
-diagnosed (judged vs) = some (diagnostics vs)
+diagnosed (judgedElements vs) = some (diagnostics vs)
 
 data Question : Type 0 where
   -- the length that these octets are
@@ -51,7 +51,7 @@ data Question : Type 0 where
 
 data Reply : Type 0 where
   a-length : Option ℕ → Reply
-  an-answer : Answer → Reply
+  an-answer : JudgedData → Reply
   the-diagnostics : Option (List Diagnostic) → Reply
   an-outcome : ℕ → Bool → Reply
   a-packet : Opened → Reply
@@ -63,7 +63,7 @@ given (length-of s) = a-length (lengthNumber (lengthOf s))
 given (answer-to s) = an-answer (judgedData true 16 s)
 given (diagnosed-in s) = the-diagnostics (diagnosed (judgedData true 16 s))
 given (asked-by c) = an-outcome (outcomeOf false c) (noticeOf false c)
-given (packet s) = a-packet (opened s)
+given (packet s) = a-packet (openedPacket s)
 given (address s) = an-address (readV4 s)
 
 record Example : Type 0 where
@@ -72,7 +72,7 @@ record Example : Type 0 where
 
 examples : List Example
 examples =
-    record { asked = answer-to (0x01 ∷ 0x82 ∷ 0x81 ∷ 0x08 ∷ []); right = an-answer (judged (known (action 8) ∷ [])) }
+    record { asked = answer-to (0x01 ∷ 0x82 ∷ 0x81 ∷ 0x08 ∷ []); right = an-answer (judgedElements (known (action 8) ∷ [])) }
     ∷ record { asked = diagnosed-in (0xE0 ∷ 0x81 ∷ 0x85 ∷ []); right = the-diagnostics (some (record { identifier = 0xE0; index = 0 } ∷ [])) }
     ∷ record {
       asked = diagnosed-in (0x04 ∷ 0x8B ∷ 0x85 ∷ 0x05 ∷ 0x83 ∷ 0x80 ∷ 0x01 ∷ 0x01 ∷ 0x05 ∷ 0x83 ∷ 0x80 ∷ 0x01 ∷ 0x0D ∷ []);
@@ -84,8 +84,8 @@ examples =
     ∷ record { asked = answer-to (0x01 ∷ 0x00 ∷ 0x01 ∷ []); right = an-answer (refusedData 2) }
     ∷ record { asked = asked-by 0xB0; right = an-outcome 3 false }
     ∷ record { asked = asked-by 0xD0; right = an-outcome 1 true }
-    ∷ record { asked = packet (0x20 ∷ 0x21 ∷ []); right = a-packet (reply (0x20 ∷ 0x61 ∷ [])) }
-    ∷ record { asked = packet (0x21 ∷ 0x20 ∷ []); right = a-packet (reply (0x60 ∷ 0x20 ∷ [])) }
+    ∷ record { asked = packet (0x20 ∷ 0x21 ∷ []); right = a-packet (tunnelReply (0x20 ∷ 0x61 ∷ [])) }
+    ∷ record { asked = packet (0x21 ∷ 0x20 ∷ []); right = a-packet (tunnelReply (0x60 ∷ 0x20 ∷ [])) }
     -- "223.255.255.255" and "224.0.0.1"
     ∷ record {
       asked = address (50 ∷ 50 ∷ 51 ∷ 46 ∷ 50 ∷ 53 ∷ 53 ∷ 46 ∷ 50 ∷ 53 ∷ 53 ∷ 46 ∷ 50 ∷ 53 ∷ 53 ∷ []);
@@ -95,5 +95,5 @@ examples =
     ∷ []
 
 all-right : map (λ x. given (x .asked)) examples ≡ map (λ x. x .right) examples
-unfolding given examples lengthNumber diagnostics diagnosed isAction lengthOf unmarked head whole countedBy elementBy sizedBy front onFront walkFrom walk fold elements roomFor cut ituCodec rightCodec actionIn withCodec onCodecs isSingle codecThen codecsIn codecListIn reading indexBy secondChoice outcomeOf noticeOf judgement verdictBy verdict judgedBy judgedData Option·elim onFirst splitOn isDigit allDigits valueFrom shortest numberFrom readNumber onNumber isUnicast kind4 allParts inBase isOctet octetValue isDotted dottedValue readV4 rightFirst rightSecond hasError versionOf protocolOf versionIndicator protocolIndicator openedBy opened
+unfolding given examples lengthNumber diagnostics diagnosed isAction lengthOf unmarked header whole countedBy elementBy sizedBy front onFront walkFrom walk fold elements roomFor cut ituCodec rightSingle actionIn withSingle onCodecs isSingle codecThen codecsIn codecListIn decoding indexBy secondChoice outcomeOf noticeOf judgement findingBy finding judgedBy judgedData Option·elim onFirst splitOn isDigit allDigits valueFrom shortest numberFrom readNumber onNumber isUnicast kind4 allParts inBase isOctet octetValue isDotted dottedValue readV4 rightFirst rightSecond hasError versionOf protocolOf versionIndicator protocolIndicator openedBy openedPacket
 all-right = refl

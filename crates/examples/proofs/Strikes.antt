@@ -13,16 +13,16 @@ use Rattle.sdp.specs.Lines.{isPlain, allPlain}
 use Rattle.sdp.specs.Written.{lineText, linesText}
 use Rattle.address.specs.declared.Address.the-variants.{V4}
 use Rattle.address.specs.Kinds.{isUnicast}
-use Rattle.address.specs.Canonical.{eachAfter, joined, numbersOf, addressText, ipv4Text}
+use Rattle.address.specs.Canonical.{eachAfter, joined, dottedNumbers, addressText, ipv4Text}
 use Rattle.media.specs.Stream.{mediaText, attributeText, rtpmapText, fmtpText, ptimeText, rtpmapLines, fmtpLines, octetsTogether, attributesFit}
-use Rattle.ipbcp.specs.Types.{wordOf}
-use Rattle.ipbcp.specs.Writing.{familyWord, hostText, originText, connectionText, ipbcpText, ptimeLines, streamLines, kindIn, mediaLines, messageLines, messageText, isToken, allTextsPlain, rightMedia, rightAttributes, rightContent, octetsOf}
-use Rattle.configuration.specs.Configuration.{Configuration, fixed, named, entryIn, suits, nameOf, names, namedIn, noneOrInRange}
+use Rattle.ipbcp.specs.Types.{typeWord}
+use Rattle.ipbcp.specs.Writing.{familyWord, hostText, originText, connectionText, ipbcpText, ptimeLines, streamLines, contentType, mediaLines, messageLines, messageText, isToken, allTextsPlain, rightMedia, rightAttributes, rightContent, messageOctets}
+use Rattle.configuration.specs.Configuration.{Configuration, fixed, named, entryIn, suits, nameOf, names, namedIn, ptimeNoneOrInRange}
 use Rattle.book.specs.Strike.{eventsOf, keptOf, sheetOf}
 use Rattle.bearer.specs.Bearer.{Bearer}
 use Rattle.bearer.specs.Hearing as hears
 use Rattle.bearer.specs.Hearing.{Heard}
-use Rattle.bearer.specs.Judging.{audio, rtpAvp, sameFamily, sameAddress, offered, commanded, unmoved, rightStream, rightRequest, nearest, restated, granted, answerTo, sameOffer, sameHost, rightAccepted}
+use Rattle.bearer.specs.Judging.{audio, rtpAvp, sameFamily, sameAddress, offered, commanded, unmoved, rightStream, rightRequest, nearest, restated, granted, acceptedFor, sameOffer, sameHost, rightAccepted}
 use Rattle.endpoint.specs.Rule.{Book, Verdict, Event, setUp, change, release, t1, t2, hearing, ruled}
 
 -- document 01's configuration, with a named codec more
@@ -73,26 +73,26 @@ T2 = given t2
 
 -- a right Request, a wrong one, one that can't be read to its end, and one of another version
 abbrev request : Heard-event
-request = hear (hears.request (some (peer 8)))
+request = hear (hears.requestHeard (some (peer 8)))
 
 abbrev wrong-request : Heard-event
-wrong-request = hear (hears.request (some (peer 9)))
+wrong-request = hear (hears.requestHeard (some (peer 9)))
 
 abbrev bad-request : Heard-event
-bad-request = hear (hears.request none)
+bad-request = hear (hears.requestHeard none)
 
 abbrev other-request : Heard-event
-other-request = hear hears.otherRequest
+other-request = hear hears.otherVersionHeard
 
 -- a right Accepted, one with another payload, and a Rejected or Confused
 abbrev accepted : Heard-event
-accepted = hear (hears.accepted (some (peer 8)))
+accepted = hear (hears.acceptedHeard (some (peer 8)))
 
 abbrev wrong-accepted : Heard-event
-wrong-accepted = hear (hears.accepted (some (peer 9)))
+wrong-accepted = hear (hears.acceptedHeard (some (peer 9)))
 
 abbrev declined : Heard-event
-declined = hear hears.declined
+declined = hear hears.declineHeard
 
 -- (events given, events left)
 cases : List (List Heard-event × List Heard-event)
@@ -129,5 +129,5 @@ cases =
     ∷ []
 
 struck-right : map (λ (p : List Heard-event × List Heard-event). left (p .0)) cases ≡ map (λ (p : List Heard-event × List Heard-event). p .1) cases
-unfolding Option·elim eachAfter joined numbersOf cases sheetOf commanded entryIn suits nameOf names namedIn noneOrInRange offered sameFamily sameAddress unmoved rightStream rightRequest nearest restated granted answerTo sameOffer sameHost rightAccepted same begins has widthFrom numberText lastDigits isPlain allPlain lineText linesText isUnicast addressText ipv4Text mediaText attributeText rtpmapText fmtpText ptimeText rtpmapLines fmtpLines octetsTogether attributesFit wordOf familyWord hostText originText connectionText ipbcpText ptimeLines streamLines kindIn mediaLines messageLines messageText isToken allTextsPlain rightMedia rightAttributes rightContent octetsOf
+unfolding Option·elim eachAfter joined dottedNumbers cases sheetOf commanded entryIn suits nameOf names namedIn ptimeNoneOrInRange offered sameFamily sameAddress unmoved rightStream rightRequest nearest restated granted acceptedFor sameOffer sameHost rightAccepted same begins has widthFrom numberText lastDigits isPlain allPlain lineText linesText isUnicast addressText ipv4Text mediaText attributeText rtpmapText fmtpText ptimeText rtpmapLines fmtpLines octetsTogether attributesFit typeWord familyWord hostText originText connectionText ipbcpText ptimeLines streamLines contentType mediaLines messageLines messageText isToken allTextsPlain rightMedia rightAttributes rightContent messageOctets
 struck-right = refl

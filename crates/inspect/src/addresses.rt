@@ -32,7 +32,7 @@ fn push_text(family: u16, text: &[u8], out: &mut [u8], at: usize) -> usize {
 
 // Appends the answer to the line.
 pub(crate) fn push_answer(line: &[u8], data: &mut [u8], out: &mut [u8], at: usize) -> usize {
-    if parts::separators(line, 32) != 2 {
+    if parts::separators(line, b' ') != 2 {
         return print::bad_line(out, at);
     }
     let a = input::number(line, 1);

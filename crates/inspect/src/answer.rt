@@ -17,7 +17,7 @@ pub(crate) fn push_answer(
     out: &mut [u8],
     at: usize,
 ) -> usize {
-    let word = parts::part(line, 32, 0);
+    let word = parts::part(line, b' ', 0);
     if words::equals(b"elements", word) {
         return elements::push_answer(line, data, out, at);
     }

@@ -10,7 +10,7 @@ use bat::Diagnostic;
 use bat::Frame;
 use bat::Judged;
 use bat::Outcome;
-use bat::Verdict;
+use bat::Finding;
 use bat::framing;
 use bat_read::Examined;
 use bat_read::Listed;
@@ -62,17 +62,17 @@ fn push_judged(j: Judged, out: &mut [u8], at: usize) -> usize {
 
 // Appends the front of the element f, which starts at `start`.
 fn push_front(f: Frame, start: usize, out: &mut [u8], at: usize) -> usize {
-    let k = append::push_octet(32, out, at);
+    let k = append::push_octet(b' ', out, at);
     let k2 = append::push_number_then(f.identifier as u64, 47, out, k);
     let k3 = append::push_number_then(start as u64, 47, out, k2);
     append::push_number_then(framing::whole_length(f) as u64, 47, out, k3)
 }
 
 // Appends what is made of the element f at the front of s.
-fn push_verdict(s: &[u8], f: Frame, v: Verdict, out: &mut [u8], at: usize) -> usize {
+fn push_verdict(s: &[u8], f: Frame, v: Finding, out: &mut [u8], at: usize) -> usize {
     match v {
-        Verdict::Recognised(value) => values::push_value(framing::contents(s, f), value, out, at),
-        Verdict::Unknown(j) => push_judged(j, out, at),
+        Finding::Recognised(value) => values::push_value(framing::contents(s, f), value, out, at),
+        Finding::Unknown(j) => push_judged(j, out, at),
     }
 }
 
@@ -101,7 +101,7 @@ fn push_elements(data: &[u8], pass: bool, out: &mut [u8], at: usize) -> usize {
 // Appends a listed diagnostic, behind `;` unless it is the first, which stands at `first`.
 fn push_listing(d: Diagnostic, first: usize, out: &mut [u8], at: usize) -> usize {
     if first < at {
-        let k = append::push_octet(59, out, at);
+        let k = append::push_octet(b';', out, at);
         return push_diagnostic(d, out, k);
     }
     push_diagnostic(d, out, at)
@@ -133,7 +133,7 @@ fn push_listed(data: &[u8], pass: bool, out: &mut [u8], at: usize) -> usize {
     if first < k {
         return k;
     }
-    append::push_octet(45, out, k)
+    append::push_octet(b'-', out, k)
 }
 
 // Appends the answer to data that is taken.
@@ -162,7 +162,7 @@ fn push_data(data: &[u8], entries: u16, pass: bool, out: &mut [u8], at: usize) -
 
 // Appends the answer to the line.
 pub(crate) fn push_answer(line: &[u8], data: &mut [u8], out: &mut [u8], at: usize) -> usize {
-    if parts::separators(line, 32) != 3 {
+    if parts::separators(line, b' ') != 3 {
         return print::bad_line(out, at);
     }
     let a = input::number(line, 1);

@@ -13,12 +13,12 @@ pub(crate) enum Unpacked {
 
 // The number in the k-th field. One above 65535 counts as 65535: no table, buffer or octet needs more.
 pub(crate) fn number(line: &[u8], k: usize) -> Number {
-    read_length(parts::part(line, 32, k))
+    read_length(parts::part(line, b' ', k))
 }
 
 // Puts the octets of the k-th field into data: `-` stands for none, else it has digits.
 pub(crate) fn unpack(line: &[u8], k: usize, data: &mut [u8]) -> Unpacked {
-    let field = parts::part(line, 32, k);
+    let field = parts::part(line, b' ', k);
     if words::equals(b"-", field) {
         return Unpacked::Octets(0);
     }

@@ -58,7 +58,7 @@ fn push_step(line: &[u8], data: &mut [u8], room: &mut [u8], out: &mut [u8], stat
 fn step(line: &[u8], data: &mut [u8], room: &mut [u8], out: &mut [u8], state: State) -> State {
     let mut st = state;
     let k = push_step(line, data, room, out, st);
-    let at = octets::append::push_octet(10, out, k);
+    let at = octets::append::push_octet(b'\n', out, k);
     st.output.at = at;
     st.len = 0;
     st.over = false;

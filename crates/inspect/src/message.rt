@@ -4,7 +4,7 @@ use crate::input::Unpacked;
 use crate::print;
 use address::Address;
 use address::write;
-use ipbcp::Kind;
+use ipbcp::MessageType;
 use ipbcp::Message;
 use media::Stream;
 use media::Texts;
@@ -15,17 +15,17 @@ use octets::append;
 use octets::parts;
 use octets::spans;
 
-fn push_kind(kind: Kind, out: &mut [u8], at: usize) -> usize {
+fn push_kind(kind: MessageType, out: &mut [u8], at: usize) -> usize {
     match kind {
-        Kind::Request => append::push(b"Request", out, at),
-        Kind::Accepted => append::push(b"Accepted", out, at),
-        Kind::Confused => append::push(b"Confused", out, at),
-        Kind::Rejected => append::push(b"Rejected", out, at),
+        MessageType::Request => append::push(b"Request", out, at),
+        MessageType::Accepted => append::push(b"Accepted", out, at),
+        MessageType::Confused => append::push(b"Confused", out, at),
+        MessageType::Rejected => append::push(b"Rejected", out, at),
     }
 }
 
 // Appends a version and a type.
-fn push_head(version: u8, kind: Kind, out: &mut [u8], at: usize) -> usize {
+fn push_head(version: u8, kind: MessageType, out: &mut [u8], at: usize) -> usize {
     let k = append::push_number_then(version as u64, 32, out, at);
     push_kind(kind, out, k)
 }
@@ -45,7 +45,7 @@ fn push_address(a: Address, out: &mut [u8], at: usize) -> usize {
 
 // Appends a blank and a number.
 fn push_number(n: u64, out: &mut [u8], at: usize) -> usize {
-    let k = append::push_octet(32, out, at);
+    let k = append::push_octet(b' ', out, at);
     append::push_number(n, out, k)
 }
 
@@ -56,7 +56,7 @@ fn push_text(m: &[u8], sp: Span, out: &mut [u8], at: usize) -> usize {
 
 // Appends a blank and the texts of fmtp.
 fn push_fmtp(m: &[u8], x: Texts, out: &mut [u8], at: usize) -> usize {
-    let k = append::push_octet(32, out, at);
+    let k = append::push_octet(b' ', out, at);
     push_texts(m, x, out, k)
 }
 
@@ -80,7 +80,7 @@ fn push_attributes(m: &[u8], s: Stream, out: &mut [u8], at: usize) -> usize {
 }
 
 // Appends what a Request or Accepted of version 1 says.
-fn push_described(m: &[u8], kind: Kind, a: Address, s: Stream, out: &mut [u8], at: usize) -> usize {
+fn push_described(m: &[u8], kind: MessageType, a: Address, s: Stream, out: &mut [u8], at: usize) -> usize {
     let k = push_head(1, kind, out, at);
     let k2 = push_address(a, out, k);
     let k3 = push_media(m, s, out, k2);
@@ -103,7 +103,7 @@ fn push_message(m: &[u8], out: &mut [u8], at: usize) -> usize {
 
 // Appends the answer to the line.
 pub(crate) fn push_answer(line: &[u8], data: &mut [u8], out: &mut [u8], at: usize) -> usize {
-    if parts::separators(line, 32) != 1 {
+    if parts::separators(line, b' ') != 1 {
         return print::bad_line(out, at);
     }
     let a = input::unpack(line, 1, data);

@@ -7,7 +7,7 @@ use crate::print;
 use bat::Counted;
 use bat::Frame;
 use bat::Framed;
-use bat::Reading;
+use bat::Decoding;
 use bat::Value;
 use bat::framing;
 use notation::push_octets;
@@ -49,7 +49,7 @@ fn push_element(
 ) -> usize {
     let c = framing::contents(s, f);
     let x = bat_read::decode(f.identifier, c);
-    let Reading::Decoded(v) = x else {
+    let Decoding::Decoded(v) = x else {
         return append::push(b"unknown", out, at);
     };
     push_written(v, c, compatibility, room, out, at)
@@ -89,7 +89,7 @@ pub(crate) fn push_answer(
     out: &mut [u8],
     at: usize,
 ) -> usize {
-    if parts::separators(line, 32) != 3 {
+    if parts::separators(line, b' ') != 3 {
         return print::bad_line(out, at);
     }
     let a = input::number(line, 1);

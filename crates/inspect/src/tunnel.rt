@@ -35,7 +35,7 @@ pub(crate) fn push_answer(
     out: &mut [u8],
     at: usize,
 ) -> usize {
-    if parts::separators(line, 32) != 2 {
+    if parts::separators(line, b' ') != 2 {
         return print::bad_line(out, at);
     }
     let a = input::number(line, 1);

@@ -1,10 +1,10 @@
 // The value of a decoded element.
 use crate::print;
 use crate::walk;
-use bat::Codec;
+use bat::SingleCodec;
 use bat::Framed;
-use bat::Timed;
-use bat::Typed;
+use bat::InnerDuration;
+use bat::InnerType;
 use bat::Value;
 use bat::framing;
 use octets::Span;
@@ -36,7 +36,7 @@ fn push_codec(organisation: u8, information: &[u8], out: &mut [u8], at: usize) -
     notation::push_octets(information, out, k)
 }
 
-fn push_single(s: &[u8], c: Codec, out: &mut [u8], at: usize) -> usize {
+fn push_single(s: &[u8], c: SingleCodec, out: &mut [u8], at: usize) -> usize {
     let sp = c.information;
     let k = append::push(b"codec=", out, at);
     push_codec(c.organisation, spans::text(s, sp), out, k)
@@ -52,7 +52,7 @@ fn push_next(c: &[u8], i: usize, out: &mut [u8], at: usize) -> usize {
     if i == 0 {
         return push_contents(c, out, at);
     }
-    let k = append::push_octet(44, out, at);
+    let k = append::push_octet(b',', out, at);
     push_contents(c, out, k)
 }
 
@@ -90,7 +90,7 @@ fn push_diagnostics(s: &[u8], out: &mut [u8], at: usize) -> usize {
             return k;
         }
         let index = bat::ranges::word(&s[i + 1..]);
-        k = append::push_octet(59, out, k);
+        k = append::push_octet(b';', out, k);
         k = print::diagnostic(s[i], index as u64, out, k);
         i += 3;
     }
@@ -109,11 +109,11 @@ fn push_unit(s: &[u8], network: Span, local: Span, out: &mut [u8], at: usize) ->
 }
 
 // Appends a signal: its type, and its duration if it has one.
-fn push_signal(kind: Typed, duration: Timed, out: &mut [u8], at: usize) -> usize {
+fn push_signal(kind: InnerType, duration: InnerDuration, out: &mut [u8], at: usize) -> usize {
     let k = push_number(b"signal=", kind.kind as u64, out, at);
     match duration {
-        Timed::Untimed => k,
-        Timed::Lasting {
+        InnerDuration::Untimed => k,
+        InnerDuration::Lasting {
             compatibility: _,
             duration: d,
         } => push_number(b";", d as u64, out, k),

@@ -18,10 +18,10 @@ use Rattle.address.specs.declared.Address.the-variants.{V4, V6}
 use Rattle.address.proofs.Lengths.{length-address}
 use Rattle.media.specs.Stream.{Stream, mediaText, ptimeWord, attributeText, ptimeText, rtpmapLines, fmtpText, fmtpLines, octetsTogether}
 use Rattle.media.proofs.LimitLaws.{together-append}
-use Rattle.ipbcp.specs.declared.Kind.{Kind}
-use Rattle.ipbcp.specs.declared.Kind.the-variants.{Request, Accepted, Confused, Rejected}
-use Rattle.ipbcp.specs.Types.{wordOf}
-use Rattle.ipbcp.specs.Writing.{Content, request, accepted, confused, rejected, familyWord, hostText, versionText, originText, sessionText, connectionText, timeText, ipbcpText, ptimeLines, streamLines, kindIn, mediaLines, messageLines, messageText, rightMedia, rightAttributes, rightContent, mostWritten, voice}
+use Rattle.ipbcp.specs.declared.MessageType.{MessageType}
+use Rattle.ipbcp.specs.declared.MessageType.the-variants.{Request, Accepted, Confused, Rejected}
+use Rattle.ipbcp.specs.Types.{typeWord}
+use Rattle.ipbcp.specs.Writing.{Content, requestContent, acceptedContent, confusedContent, rejectedContent, familyWord, hostText, versionText, originText, sessionText, connectionText, timeText, ipbcpText, ptimeLines, streamLines, contentType, mediaLines, messageLines, messageText, rightMedia, rightAttributes, rightContent, mostWritten, voice}
 use Rattle.ipbcp.proofs.WrittenLaws.{media-parts, attribute-parts}
 
 -- ---- numbers
@@ -55,8 +55,8 @@ unfolding hostText familyWord
 length-host (V4 n) = omega (arith, length-address (V4 n))
 length-host (V6 h l) = omega (arith, length-address (V6 h l))
 
-length-word : (k : Kind) → length (wordOf k) ≤ 8
-unfolding wordOf
+length-word : (k : MessageType) → length (typeWord k) ≤ 8
+unfolding typeWord
 length-word Request = omega arith
 length-word Accepted = omega arith
 length-word Confused = omega arith
@@ -113,7 +113,7 @@ module _ (s : Stream) (h : rightMedia s ≡ true) (k : rightAttributes s ≡ tru
       let g = length-append fs ps in
       omega (arith, length-media, rtpmap-one, length-map (s .fmtp), length-ptime)
 
-length-opening : (own : Address) (k : Kind) (ts : List (List ℕ))
+length-opening : (own : Address) (k : MessageType) (ts : List (List ℕ))
     → length (linesText (versionText ∷ originText own ∷ sessionText ∷ connectionText own ∷ timeText ∷ ipbcpText k ∷ ts)) ≤ 143 + length (linesText ts)
 unfolding originText connectionText ipbcpText octetsTogether
 length-opening own k ts =
@@ -122,17 +122,17 @@ length-opening own k ts =
     omega (arith, length-host own, length-word k)
 
 -- Confused and Rejected are short; so is a Request or Accepted for audio and RTP/AVP: none of them is refused for its length.
-pub length-bare : (own : Address) (k : Kind) → length (linesText (versionText ∷ originText own ∷ sessionText ∷ connectionText own ∷ timeText ∷ ipbcpText k ∷ [])) ≤ 143
+pub length-bare : (own : Address) (k : MessageType) → length (linesText (versionText ∷ originText own ∷ sessionText ∷ connectionText own ∷ timeText ∷ ipbcpText k ∷ [])) ≤ 143
 unfolding linesText
 length-bare own k = omega (arith, length-opening own k [])
 
-pub length-described : (own : Address) (k : Kind) (s : Stream) → rightMedia s ≡ true → rightAttributes s ≡ true → length (s .media) + length (s .transport) ≤ 12
+pub length-described : (own : Address) (k : MessageType) (s : Stream) → rightMedia s ≡ true → rightAttributes s ≡ true → length (s .media) + length (s .transport) ≤ 12
     → length (linesText (versionText ∷ originText own ∷ sessionText ∷ connectionText own ∷ timeText ∷ ipbcpText k ∷ streamLines s)) ≤ mostWritten
 length-described own k s h j l = omega (arith, length-opening own k (streamLines s), length-stream s h j l)
 
 pub length-message : (own : Address) (c : Content) → rightContent c ≡ true → voice c → length (messageText own c) ≤ mostWritten
-unfolding messageText messageLines mediaLines kindIn rightContent voice
-length-message own (request s) h v = let a = and-eq-true-iff (rightMedia s) (rightAttributes s) .0 h in length-described own Request s (a .0) (a .1) v
-length-message own (accepted s) h v = let a = and-eq-true-iff (rightMedia s) (rightAttributes s) .0 h in length-described own Accepted s (a .0) (a .1) v
-length-message own confused h v = omega (arith, length-bare own Confused)
-length-message own rejected h v = omega (arith, length-bare own Rejected)
+unfolding messageText messageLines mediaLines contentType rightContent voice
+length-message own (requestContent s) h v = let a = and-eq-true-iff (rightMedia s) (rightAttributes s) .0 h in length-described own Request s (a .0) (a .1) v
+length-message own (acceptedContent s) h v = let a = and-eq-true-iff (rightMedia s) (rightAttributes s) .0 h in length-described own Accepted s (a .0) (a .1) v
+length-message own confusedContent h v = omega (arith, length-bare own Confused)
+length-message own rejectedContent h v = omega (arith, length-bare own Rejected)

@@ -16,34 +16,34 @@ use Rattle.media.specs.declared.Stream.{Stream as Places}
 use Rattle.media.specs.declared.Taken.{Taken}
 use Rattle.media.specs.declared.Taken.the-variants.{Stream as TakenStream, Wrong as TakenWrong}
 use Rattle.media.specs.Meaning.{streamBy, streamIn, takenBy, KeptInside}
-use Rattle.description.specs.Draft.{Draft, start}
-use Rattle.description.specs.Meaning.{later, laterBy}
-use Rattle.ipbcp.specs.declared.Kind.{Kind}
+use Rattle.description.specs.Draft.{Draft, emptyDraft}
+use Rattle.description.specs.Meaning.{afterMedia, afterMediaBy}
+use Rattle.ipbcp.specs.declared.MessageType.{MessageType}
 use Rattle.ipbcp.specs.declared.Head.{Head}
 use Rattle.ipbcp.specs.declared.Head.the-variants.{Typed, Untyped}
 use Rattle.ipbcp.specs.declared.Message.{Message}
 use Rattle.ipbcp.specs.declared.Message.the-variants as answer
 use Rattle.ipbcp.specs.Types.{headIn}
-use Rattle.ipbcp.specs.Reading.{linesOf, finish, isDescribed, byHead, readMessage, mostRead}
-use Rattle.ipbcp.specs.Whole.{wholeOf, ended, StreamLines, Reached, TypeAlone, Describes}
+use Rattle.ipbcp.specs.Reading.{afterLines, concluded, isDescribed, byHead, readMessage, mostRead}
+use Rattle.ipbcp.specs.Whole.{afterText, complete, StreamLines, Reached, TypeAlone, Describes}
 use Rattle.ipbcp.specs.Meaning.{readingIn}
 
 -- ---- a type that the code has matched
-pub described-of : (k j : Kind) (b : Bool) → k ≡ j → b ≡ isDescribed j → b ≡ isDescribed k
+pub described-of : (k j : MessageType) (b : Bool) → k ≡ j → b ≡ isDescribed j → b ≡ isDescribed k
 described-of k j b e p = rw e p
 
 -- ---- the answer by version and type
 -- what all lines say, by the lines that are right
-finish-ended : (k : Kind) (o : Option Draft) → finish k (ended o) ≡ finish k o
-unfolding finish ended
+finish-ended : (k : MessageType) (o : Option Draft) → concluded k (complete o) ≡ concluded k o
+unfolding concluded complete
 finish-ended k none = refl
 finish-ended k (some d) = by-bool (eqb (d .had) 7) _ (λ e. rw (e, e)) (λ e. rw e)
 
-finish-by : (m : List ℕ) (k : Kind) (o : Option Draft) → inLines m ≡ true → ended (wholeOf start m) ≡ o → finish k o ≡ finish k (linesOf start (lines m))
-unfolding wholeOf
+finish-by : (m : List ℕ) (k : MessageType) (o : Option Draft) → inLines m ≡ true → complete (afterText emptyDraft m) ≡ o → concluded k o ≡ concluded k (afterLines emptyDraft (lines m))
+unfolding afterText
 finish-by m k o l e =
-    let z : wholeOf start m ≡ linesOf start (lines m) = rw l in
-    rw (← e, z) (finish-ended k (linesOf start (lines m)))
+    let z : afterText emptyDraft m ≡ afterLines emptyDraft (lines m) = rw l in
+    rw (← e, z) (finish-ended k (afterLines emptyDraft (lines m)))
 
 -- y is the version and the type of m
 module _ (m : List ℕ) (y : Head) (is : y ≡ headIn m) where
@@ -54,7 +54,7 @@ module _ (m : List ℕ) (y : Head) (is : y ≡ headIn m) where
   unfolding readingIn byHead
   by-untyped e = by-head (answer.Refused 9) Untyped e refl
 
-  module _ (version : ℕ) (kind : Kind) (e : y ≡ Typed version kind) where
+  module _ (version : ℕ) (kind : MessageType) (e : y ≡ Typed version kind) where
     pub read-lined : inLines m ≡ true
     unfolding headIn
     read-lined =
@@ -73,21 +73,21 @@ module _ (m : List ℕ) (y : Head) (is : y ≡ headIn m) where
           let g : isDescribed kind ≡ false = sym says ∙ f in
           by-head (answer.Typed version kind) (Typed version kind) e (rw (eq-eqb version 1 one, g))
 
-      by-lines : t ≡ true → (o : Option Draft) → ended (wholeOf start m) ≡ o → (r : Message) → readingIn m r ≡ some (finish kind o) → readingIn m r ≡ some (byHead m (headIn m))
+      by-lines : t ≡ true → (o : Option Draft) → complete (afterText emptyDraft m) ≡ o → (r : Message) → readingIn m r ≡ some (concluded kind o) → readingIn m r ≡ some (byHead m (headIn m))
       unfolding byHead
       by-lines f o q r p =
           let g : isDescribed kind ≡ true = sym says ∙ f in
           by-head r (Typed version kind) e (rw (eq-eqb version 1 one, g) (p ∙ ap some (finish-by m kind o read-lined q)))
 
-      pub by-wrong : t ≡ true → ended (wholeOf start m) ≡ none → readingIn m (answer.Refused 10) ≡ some (byHead m (headIn m))
-      unfolding readingIn finish
+      pub by-wrong : t ≡ true → complete (afterText emptyDraft m) ≡ none → readingIn m (answer.Refused 10) ≡ some (byHead m (headIn m))
+      unfolding readingIn concluded
       by-wrong f q = by-lines f none q (answer.Refused 10) refl
 
-      by-stream : t ≡ true → (a : Address) (s : Places) → ended (wholeOf start m) ≡ some (later a (streamBy m s)) → (r : Places) → KeptInside m s r
+      by-stream : t ≡ true → (a : Address) (s : Places) → complete (afterText emptyDraft m) ≡ some (afterMedia a (streamBy m s)) → (r : Places) → KeptInside m s r
           → readingIn m (answer.Described kind a r) ≡ some (byHead m (headIn m))
-      unfolding readingIn finish later streamIn
+      unfolding readingIn concluded afterMedia streamIn
       by-stream f a s q r p =
-          by-lines f (some (later a (streamBy m s))) q (answer.Described kind a r) (rw (p .inside, p .same))
+          by-lines f (some (afterMedia a (streamBy m s))) q (answer.Described kind a r) (rw (p .inside, p .same))
 
 pub ruleset byTypes = (by-untyped, by-version, by-type, by-wrong)
 
@@ -100,7 +100,7 @@ module _ (m : List ℕ) (h : Head) (from : ℕ) (told : cond (inLines (drop from
   told-no e = let k : inLines (drop from m) ≡ false = rw (← at) (sym is ∙ e) in rw k at told
 
 -- no more than version and type is read
-module _ (m : List ℕ) (version : ℕ) (kind : Kind) (from : ℕ) (by : TypeAlone m version kind from) (r : List ℕ) (at : r ≡ drop from m) (u : Bool) (is : u ≡ inLines r) where
+module _ (m : List ℕ) (version : ℕ) (kind : MessageType) (from : ℕ) (by : TypeAlone m version kind from) (r : List ℕ) (at : r ≡ drop from m) (u : Bool) (is : u ≡ inLines r) where
   pub alone-yes : u ≡ true → readingIn m (answer.Typed version kind) ≡ some (byHead m (headIn m))
   unfolding readingIn
   alone-yes e = rw (← told-yes m (Typed version kind) from (by .head) r at u is e, by .alone)
@@ -111,18 +111,18 @@ module _ (m : List ℕ) (version : ℕ) (kind : Kind) (from : ℕ) (by : TypeAlo
 pub ruleset alones = (alone-yes, alone-no)
 
 -- a Request or Accepted: y is what the lines there say
-there : (b : Bool) (o : Option Draft) (d : Draft) → ended (cond b o none) ≡ some d → b ≡ true
-unfolding ended
+there : (b : Bool) (o : Option Draft) (d : Draft) → complete (cond b o none) ≡ some d → b ≡ true
+unfolding complete
 there true o d e = refl
 there false o d e = absurd (let z : _≡_ {A = ℕ} 0 1 = cc in omega arith)
 
-module _ (m : List ℕ) (kind : Kind) (a : Address) (from : ℕ) (by : Describes m kind a from) (y : Taken) (is : StreamLines m from y) where
-  all-say : ended (wholeOf start m) ≡ laterBy a m y
+module _ (m : List ℕ) (kind : MessageType) (a : Address) (from : ℕ) (by : Describes m kind a from) (y : Taken) (is : StreamLines m from y) where
+  all-say : complete (afterText emptyDraft m) ≡ afterMediaBy a m y
   all-say = rw (← by .reached .lines) (sym (is .is a))
 
   module _ (e : y ≡ TakenWrong) (r : List ℕ) (at : r ≡ drop from m) (u : Bool) (lined : u ≡ inLines r) where
     pub describe-wrong : u ≡ true → readingIn m (answer.Refused 10) ≡ some (byHead m (headIn m))
-    unfolding laterBy takenBy
+    unfolding afterMediaBy takenBy
     describe-wrong f =
         by-wrong m (Typed 1 kind) (told-yes m (Typed 1 kind) from (by .reached .head) r at u lined f) 1 kind refl refl true (sym (by .more)) refl (all-say ∙ rw e)
 
@@ -130,9 +130,9 @@ module _ (m : List ℕ) (kind : Kind) (a : Address) (from : ℕ) (by : Describes
     describe-none f = by-untyped m Untyped (told-no m (Typed 1 kind) from (by .reached .head) r at u lined f) refl
 
   pub describe-is : (s : Places) → y ≡ TakenStream s → (r : Places) → KeptInside m s r → readingIn m (answer.Described kind a r) ≡ some (byHead m (headIn m))
-  unfolding wholeOf laterBy takenBy
+  unfolding afterText afterMediaBy takenBy
   describe-is s e r p =
-      let q : laterBy a m y ≡ some (later a (streamBy m s)) = rw e in
+      let q : afterMediaBy a m y ≡ some (afterMedia a (streamBy m s)) = rw e in
       let k : inLines (drop from m) ≡ true = there (inLines (drop from m)) _ _ (sym (is .is a) ∙ q) in
       let t : Typed 1 kind ≡ headIn m = rw k at (by .reached .head) in
       by-stream m (Typed 1 kind) t 1 kind refl refl true (sym (by .more)) refl a s (all-say ∙ q) r p
@@ -146,7 +146,7 @@ module _ (m : List ℕ) (h : Head) (a : Address) (from : ℕ) (by : Reached m h 
       let z : cond (inLines (drop from m)) Untyped Untyped ≡ headIn m = rw e at (by .head) in
       by-untyped m Untyped (by-bool (inLines (drop from m)) _ (λ f. rw f at z) (λ f. rw f at z)) refl
 
-  module _ (version : ℕ) (kind : Kind) (e : h ≡ Typed version kind) where
+  module _ (version : ℕ) (kind : MessageType) (e : h ≡ Typed version kind) where
     pub typed-version : (version ≡ 1 → ⊥) → TypeAlone m version kind from
     unfolding byHead
     typed-version f = record { head = rw e at (by .head); alone = rw (ne-eqb version 1 f) }

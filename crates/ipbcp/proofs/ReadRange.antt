@@ -12,7 +12,7 @@ use native.Mathlib.Omega.{arith}
 use borrow.Author.Tests.{leb-true, ltb-true, eqb-true, le-leb, lt-ltb, eq-eqb, ne-eqb}
 use Rattle.octets.specs.declared.Number.{Number}
 use Rattle.octets.specs.declared.Number.the-variants.{Value, Bad}
-use Rattle.octets.specs.Split.{has, before, onFirst, splitOn, partOf}
+use Rattle.octets.specs.Split.{has, before, onFirst, splitOn, partAt}
 use Rattle.octets.specs.Decimal.{allDigits, valueFrom, shortest, numberFrom, readNumber, onNumber}
 use Rattle.octets.specs.Words.{begins, same}
 use Rattle.octets.proofs.CaseLaws.{by-eq, by-bool}
@@ -25,13 +25,13 @@ use Rattle.address.specs.declared.Parsed.the-variants.{Unicast, Unreadable}
 use Rattle.address.specs.Kinds.{isUnicast, onParsed}
 use Rattle.media.specs.Stream.{Stream, bareStream, rtpmapWord, fmtpWord, ptimeWord, rtpmapLines, fmtpLines, octetsTogether, attributesFit, mostAttributes}
 use Rattle.media.specs.Attributes.{mediaOf, fitting, withRtpmap, withFmtp, withPtime, rtpmapOf, fmtpOf, ptimeOf, isAttribute, attributeOf}
-use Rattle.description.specs.Draft.{Draft, start, reached, needed, versionLine, isOrigin, originLine, sessionLine, connectionOf, withAddress, connectionLine, isTime, timeLine, ipbcpLine, withStream, mediaLine, ipbcpWord, attributeLine, skippedLetters, fieldOf, lineOf}
-use Rattle.ipbcp.specs.declared.Kind.{Kind}
+use Rattle.description.specs.Draft.{Draft, emptyDraft, reached, needed, versionLine, isOrigin, originLine, sessionLine, connectionOf, withAddress, connectionLine, isTime, timeLine, ipbcpLine, withStream, mediaLine, ipbcpWord, attributeLine, skippedLetters, afterField, afterLine}
+use Rattle.ipbcp.specs.declared.MessageType.{MessageType}
 use Rattle.ipbcp.specs.declared.Head.{Head}
 use Rattle.ipbcp.specs.declared.Head.the-variants.{Typed, Untyped}
 use Rattle.ipbcp.specs.Types.{headIn}
-use Rattle.ipbcp.specs.Reading.{refused, typed, described, linesOf, finish, isDescribed, byHead, readMessage, mostRead}
-use Rattle.ipbcp.specs.Writing.{Content, messageText, isToken, allTextsPlain, rightMedia, rightAttributes, rightContent, octetsOf, mostWritten, voice}
+use Rattle.ipbcp.specs.Reading.{refused, typed, described, afterLines, concluded, isDescribed, byHead, readMessage, mostRead}
+use Rattle.ipbcp.specs.Writing.{Content, messageText, isToken, allTextsPlain, rightMedia, rightAttributes, rightContent, messageOctets, mostWritten, voice}
 use Rattle.ipbcp.proofs.ReadLaws.{read-lined}
 use Rattle.ipbcp.proofs.WrittenLaws.{attribute-parts}
 use Rattle.ipbcp.proofs.Lengths.{length-message}
@@ -121,31 +121,31 @@ unfolding has
 clean-cons c b t n p h = (rw (ne-eqb b c n) (h .0), plain-cons b t p (h .1))
 
 -- each part, where an octet is put before the first
-clean-first : (c b : ℕ) (ps : List (List ℕ)) → (b ≡ c → ⊥) → isPlain b ≡ true → ((k : ℕ) → Clean c (partOf k ps)) → (k : ℕ) → Clean c (partOf k (onFirst b ps))
-unfolding partOf onFirst
+clean-first : (c b : ℕ) (ps : List (List ℕ)) → (b ≡ c → ⊥) → isPlain b ≡ true → ((k : ℕ) → Clean c (partAt k ps)) → (k : ℕ) → Clean c (partAt k (onFirst b ps))
+unfolding partAt onFirst
 clean-first c b [] n p h zero = clean-cons c b [] n p (clean-nil c)
 clean-first c b [] n p h (suc k) = clean-nil c
 clean-first c b (q ∷ ps) n p h zero = clean-cons c b q n p (h 0)
 clean-first c b (q ∷ ps) n p h (suc k) = h (suc k)
 
-clean-here : (c : ℕ) (ps : List (List ℕ)) → ((k : ℕ) → Clean c (partOf k ps)) → (k : ℕ) → Clean c (partOf k ([] ∷ ps))
-unfolding partOf
+clean-here : (c : ℕ) (ps : List (List ℕ)) → ((k : ℕ) → Clean c (partAt k ps)) → (k : ℕ) → Clean c (partAt k ([] ∷ ps))
+unfolding partAt
 clean-here c ps h zero = clean-nil c
 clean-here c ps h (suc k) = h k
 
-clean-split : (c : ℕ) (s : List ℕ) → allPlain s ≡ true → (k : ℕ) → Clean c (partOf k (splitOn c s))
-unfolding splitOn partOf
+clean-split : (c : ℕ) (s : List ℕ) → allPlain s ≡ true → (k : ℕ) → Clean c (partAt k (splitOn c s))
+unfolding splitOn partAt
 clean-split c [] h zero = clean-nil c
 clean-split c [] h (suc k) = clean-nil c
 clean-split c (b ∷ bs) h k =
     let a = plain-parts b bs h in
-    let r : (j : ℕ) → Clean c (partOf j (splitOn c bs)) = λ j. clean-split c bs (a .1) j in
+    let r : (j : ℕ) → Clean c (partAt j (splitOn c bs)) = λ j. clean-split c bs (a .1) j in
     by-eq b c _
     (λ e. rw (eq-eqb b c e) (clean-here c (splitOn c bs) r k))
     (λ e. rw (ne-eqb b c e) (clean-first c b (splitOn c bs) e (a .0) r k))
 
-some-part : (ps : List (List ℕ)) (k : ℕ) → noneEmpty ps ≡ true → k < length ps → 0 < length (partOf k ps)
-unfolding noneEmpty partOf
+some-part : (ps : List (List ℕ)) (k : ℕ) → noneEmpty ps ≡ true → k < length ps → 0 < length (partAt k ps)
+unfolding noneEmpty partAt
 some-part [] k h l = absurd (omega arith)
 some-part (p ∷ ps) zero h l = ltb-true 0 (length p) (and-eq-true-iff (ltb 0 (length p)) (noneEmpty ps) .0 h .0)
 some-part (p ∷ ps) (suc k) h l = some-part ps k (and-eq-true-iff (ltb 0 (length p)) (noneEmpty ps) .0 h .1) (omega arith)
@@ -261,8 +261,8 @@ module _ (s : Stream) (r : Right s) where
 abbrev Kept : Draft → Type 0
 Kept d = d .had ≡ 7 → Right (d .stream)
 
-start-kept : Kept start
-unfolding start
+start-kept : Kept emptyDraft
+unfolding emptyDraft
 start-kept e = absurd (omega arith)
 
 -- a needed line before the media line
@@ -305,8 +305,8 @@ module _ (d : Draft) (k : Kept d) where
       (λ t. stream-kept d (attributeOf (d .stream) a) (attribute-right (d .stream) (k (eqb-true (d .had) 7 t)) a h)))
       (λ _. every-some Kept d k))
 
-  field-kept : (letter : ℕ) (v : List ℕ) → allPlain v ≡ true → every Kept (fieldOf d letter v)
-  unfolding fieldOf versionLine originLine sessionLine timeLine
+  field-kept : (letter : ℕ) (v : List ℕ) → allPlain v ≡ true → every Kept (afterField d letter v)
+  unfolding afterField versionLine originLine sessionLine timeLine
   field-kept letter v h =
       every-cond Kept (eqb letter 118) _ _ (λ _. needed-kept 0 (same (48 ∷ []) v) d (λ e. omega arith))
       (λ _. every-cond Kept (eqb letter 111) _ _ (λ _. needed-kept 1 (isOrigin v) d (λ e. omega arith))
@@ -317,23 +317,23 @@ module _ (d : Draft) (k : Kept d) where
       (λ _. every-cond Kept (eqb letter 97) _ _ (λ _. attribute-kept v h)
       (λ _. every-if Kept (has letter skippedLetters) _ (λ _. every-some Kept d k))))))))
 
-  line-kept : (t : List ℕ) → isLine t ≡ true → every Kept (lineOf d t)
-  unfolding lineOf
+  line-kept : (t : List ℕ) → isLine t ≡ true → every Kept (afterLine d t)
+  unfolding afterLine
   line-kept [] h = every-none Kept
   line-kept (letter ∷ []) h = every-none Kept
   line-kept (letter ∷ e ∷ v) h = field-kept letter v (plain-line letter e v h)
 
-lines-kept : (d : Draft) → Kept d → (ts : List (List ℕ)) → allLines ts ≡ true → every Kept (linesOf d ts)
-unfolding linesOf allLines
+lines-kept : (d : Draft) → Kept d → (ts : List (List ℕ)) → allLines ts ≡ true → every Kept (afterLines d ts)
+unfolding afterLines allLines
 lines-kept d k [] h = every-some Kept d k
 lines-kept d k (t ∷ ts) h =
     let a = and-eq-true-iff (isLine t) (allLines ts) .0 h in
-    every-elim Kept Kept (lineOf d t) (λ e. linesOf e ts) (line-kept d k t (a .0)) (λ e p. lines-kept e p ts (a .1))
+    every-elim Kept Kept (afterLine d t) (λ e. afterLines e ts) (line-kept d k t (a .0)) (λ e p. lines-kept e p ts (a .1))
 
 -- ---- the whole message
-module _ (k : Kind) (a : Address) (s : Stream) where
-  finish-right : (j : Kind) (o : Option Draft) → every Kept o → finish j o ≡ described k a s → Right s
-  unfolding finish every
+module _ (k : MessageType) (a : Address) (s : Stream) where
+  finish-right : (j : MessageType) (o : Option Draft) → every Kept o → concluded j o ≡ described k a s → Right s
+  unfolding concluded every
   finish-right j none p e = let z : _≡_ {A = ℕ} 0 1 = cc in absurd (omega arith)
   finish-right j (some d) p e =
       by-bool (eqb (d .had) 7) _
@@ -342,24 +342,24 @@ module _ (k : Kind) (a : Address) (s : Stream) where
       rw (← z) (p (eqb-true (d .had) 7 h)))
       (λ h. let q : refused 10 ≡ described k a s = rw h at e in absurd (let z : _≡_ {A = ℕ} 0 1 = cc in omega arith))
 
-  lined-right : (m : List ℕ) (j : Kind) → inLines m ≡ true → finish j (linesOf start (lines m)) ≡ described k a s → Right s
+  lined-right : (m : List ℕ) (j : MessageType) → inLines m ≡ true → concluded j (afterLines emptyDraft (lines m)) ≡ described k a s → Right s
   unfolding inLines
   lined-right m j h e =
       let all = and-eq-true-iff (allEnded m) (allLines (lines m)) .0 h .1 in
-      finish-right j (linesOf start (lines m)) (lines-kept start start-kept (lines m) all) e
+      finish-right j (afterLines emptyDraft (lines m)) (lines-kept emptyDraft start-kept (lines m) all) e
 
   head-right : (m : List ℕ) → length m ≤ mostRead → (x : Head) → x ≡ headIn m → byHead m x ≡ described k a s → Right s
   unfolding byHead
   head-right m l Untyped q e = let z : _≡_ {A = ℕ} 0 1 = cc in absurd (omega arith)
   head-right m l (Typed version j) q e = go (eqb version 1) (isDescribed j) e
     where
-      go : (t u : Bool) → cond t (cond u (finish j (linesOf start (lines m))) (typed version j)) (typed version j) ≡ described k a s → Right s
+      go : (t u : Bool) → cond t (cond u (concluded j (afterLines emptyDraft (lines m))) (typed version j)) (typed version j) ≡ described k a s → Right s
       go true true p = lined-right m j (read-lined m (Typed version j) q version j refl) p
       go true false p = let z : _≡_ {A = ℕ} 0 1 = cc in absurd (omega arith)
       go false u p = let z : _≡_ {A = ℕ} 0 1 = cc in absurd (omega arith)
 
 -- What is read of a Request or Accepted can be written: every field of it is in range.
-pub read-right : (m : List ℕ) (k : Kind) (a : Address) (s : Stream) → readMessage m ≡ described k a s
+pub read-right : (m : List ℕ) (k : MessageType) (a : Address) (s : Stream) → readMessage m ≡ described k a s
     → (rightMedia s ≡ true) × (rightAttributes s ≡ true)
 unfolding readMessage
 read-right m k a s e =
@@ -368,6 +368,6 @@ read-right m k a s e =
     (λ h. let q : refused 8 ≡ described k a s = rw h at e in absurd (let z : _≡_ {A = ℕ} 0 1 = cc in omega arith))
 
 -- ---- writing it: nothing in range is refused, where media and transport are as short as those of audio and RTP/AVP
-pub content-octets : (own : Address) (c : Content) → isUnicast own ≡ true → rightContent c ≡ true → voice c → octetsOf own c ≡ some (messageText own c)
-unfolding octetsOf
+pub content-octets : (own : Address) (c : Content) → isUnicast own ≡ true → rightContent c ≡ true → voice c → messageOctets own c ≡ some (messageText own c)
+unfolding messageOctets
 content-octets own c u h v = rw (u, h, le-leb (length (messageText own c)) mostWritten (length-message own c h v))

@@ -12,7 +12,7 @@ use native.Mathlib.Omega.{arith}
 use borrow.Author.Tests.{le-leb, lt-ltb, eq-eqb, ne-eqb, leb-true}
 use Rattle.octets.specs.Append.{numberText}
 use Rattle.octets.specs.Decimal.{isDigit, allDigits, valueFrom, shortest, numberFrom, readNumber, onNumber}
-use Rattle.octets.specs.Split.{onFirst, splitOn, partOf}
+use Rattle.octets.specs.Split.{onFirst, splitOn, partAt}
 use Rattle.octets.specs.Words.{begins, same, digitRun}
 use Rattle.octets.proofs.CaseLaws.{by-bool, by-eq}
 use Rattle.octets.proofs.SplitLaws.{split-whole}
@@ -33,31 +33,31 @@ use Rattle.media.specs.Stream.{Stream, mediaText, rtpmapWord, fmtpWord, ptimeWo
 use Rattle.media.specs.Attributes.{fitting, withRtpmap, withFmtp, withPtime, isAttribute, attributeOf}
 use Rattle.media.proofs.BackLaws.{media-back, rtpmap-back, fmtp-back, ptime-back}
 use Rattle.media.proofs.LimitLaws.{together-append}
-use Rattle.description.specs.Draft.{Draft, start, reached, needed, versionLine, inWord, isOrigin, originLine, sessionLine, addressOf, connectionOf, withAddress, connectionLine, isTime, timeLine, ipbcpLine, withStream, mediaLine, ipbcpWord, attributeLine, fieldOf, lineOf}
-use Rattle.ipbcp.specs.declared.Kind.{Kind}
-use Rattle.ipbcp.specs.declared.Kind.the-variants.{Request, Accepted, Confused, Rejected}
+use Rattle.description.specs.Draft.{Draft, emptyDraft, reached, needed, versionLine, inWord, isOrigin, originLine, sessionLine, addressOf, connectionOf, withAddress, connectionLine, isTime, timeLine, ipbcpLine, withStream, mediaLine, ipbcpWord, attributeLine, afterField, afterLine}
+use Rattle.ipbcp.specs.declared.MessageType.{MessageType}
+use Rattle.ipbcp.specs.declared.MessageType.the-variants.{Request, Accepted, Confused, Rejected}
 use Rattle.ipbcp.specs.declared.Head.the-variants.{Typed}
-use Rattle.ipbcp.specs.Types.{wordOf, kindOf, headOf, withoutBlank, firstHead, headIn, ipbcpStart}
-use Rattle.ipbcp.specs.Reading.{described, linesOf, finish, isDescribed, byHead, readMessage, mostRead}
-use Rattle.ipbcp.specs.Writing.{Content, request, accepted, confused, rejected, familyWord, hostText, versionText, originText, sessionText, connectionText, timeText, ipbcpText, ptimeLines, streamLines, kindIn, mediaLines, messageLines, messageText, rightMedia, rightAttributes, rightContent, octetsOf, readingOf, mostWritten}
+use Rattle.ipbcp.specs.Types.{typeWord, typeNamed, headFrom, withoutBlank, firstHead, headIn, ipbcpStart}
+use Rattle.ipbcp.specs.Reading.{described, afterLines, concluded, isDescribed, byHead, readMessage, mostRead}
+use Rattle.ipbcp.specs.Writing.{Content, requestContent, acceptedContent, confusedContent, rejectedContent, familyWord, hostText, versionText, originText, sessionText, connectionText, timeText, ipbcpText, ptimeLines, streamLines, contentType, mediaLines, messageLines, messageText, rightMedia, rightAttributes, rightContent, messageOctets, readingOf, mostWritten}
 use Rattle.ipbcp.proofs.WrittenLaws.{media-parts, token-parts, attribute-parts, message-lines}
 
 -- ---- version and type
-head-text : (k : Kind) → headOf (withoutBlank (drop (length ipbcpStart) (ipbcpText k))) ≡ Typed 1 k
-unfolding ipbcpText wordOf headOf withoutBlank tokenCount noneEmpty splitOn onFirst partOf readNumber numberFrom shortest allDigits isDigit valueFrom onNumber kindOf same begins Option·elim
+head-text : (k : MessageType) → headFrom (withoutBlank (drop (length ipbcpStart) (ipbcpText k))) ≡ Typed 1 k
+unfolding ipbcpText typeWord headFrom withoutBlank tokenCount noneEmpty splitOn onFirst partAt readNumber numberFrom shortest allDigits isDigit valueFrom onNumber typeNamed same begins Option·elim
 head-text Request = refl
 head-text Accepted = refl
 head-text Confused = refl
 head-text Rejected = refl
 
-opening-head : (own : Address) (k : Kind) (ts : List (List ℕ))
-    → firstHead (versionText ∷ originText own ∷ sessionText ∷ connectionText own ∷ timeText ∷ ipbcpText k ∷ ts) ≡ headOf (withoutBlank (drop (length ipbcpStart) (ipbcpText k)))
+opening-head : (own : Address) (k : MessageType) (ts : List (List ℕ))
+    → firstHead (versionText ∷ originText own ∷ sessionText ∷ connectionText own ∷ timeText ∷ ipbcpText k ∷ ts) ≡ headFrom (withoutBlank (drop (length ipbcpStart) (ipbcpText k)))
 unfolding firstHead begins originText connectionText ipbcpText
 opening-head own k ts = refl
 
-message-head : (own : Address) (c : Content) → firstHead (messageLines own c) ≡ Typed 1 (kindIn c)
+message-head : (own : Address) (c : Content) → firstHead (messageLines own c) ≡ Typed 1 (contentType c)
 unfolding messageLines
-message-head own c = opening-head own (kindIn c) (mediaLines c) ∙ head-text (kindIn c)
+message-head own c = opening-head own (contentType c) (mediaLines c) ∙ head-text (contentType c)
 
 -- ---- the lines of every message
 address-split : (a : Address) → splitOn 32 (addressText a) ≡ addressText a ∷ []
@@ -73,12 +73,12 @@ unfolding splitOn onFirst
 origin-split a = rw (host-split a)
 
 origin-is : (a : Address) → isOrigin (45 ∷ 32 ∷ 48 ∷ 32 ∷ 48 ∷ 32 ∷ hostText a) ≡ true
-unfolding isOrigin tokenCount noneEmpty partOf familyWord same begins
+unfolding isOrigin tokenCount noneEmpty partAt familyWord same begins
 origin-is (V4 n) = rw (origin-split (V4 n), lt-ltb 0 (length (addressText (V4 n))) (address-some (V4 n)))
 origin-is (V6 h l) = rw (origin-split (V6 h l), lt-ltb 0 (length (addressText (V6 h l))) (address-some (V6 h l)))
 
 connection-is : (a : Address) → fits a → isUnicast a ≡ true → connectionOf (hostText a) ≡ Unicast a
-unfolding connectionOf tokenCount noneEmpty partOf familyWord same begins addressOf readLike
+unfolding connectionOf tokenCount noneEmpty partAt familyWord same begins addressOf readLike
 connection-is (V4 n) f u =
     let b = address-back (V4 n) f u in
     rw (host-split (V4 n), lt-ltb 0 (length (addressText (V4 n))) (address-some (V4 n))) b
@@ -88,24 +88,24 @@ connection-is (V6 h l) f u =
 
 -- the draft behind them: all but the media line
 unfoldable sixLines : Address → Draft
-sixLines own = record { had = 6; address = own; stream = start .stream }
+sixLines own = record { had = 6; address = own; stream = emptyDraft .stream }
 
-opening-read : (own : Address) → fits own → isUnicast own ≡ true → (k : Kind) (ts : List (List ℕ))
-    → linesOf start (versionText ∷ originText own ∷ sessionText ∷ connectionText own ∷ timeText ∷ ipbcpText k ∷ ts) ≡ linesOf (sixLines own) ts
-unfolding linesOf lineOf fieldOf start versionLine needed reached same begins originText originLine sessionLine connectionText connectionLine onParsed withAddress timeLine isTime tokenCount noneEmpty splitOn onFirst partOf digitRun allDigits isDigit ipbcpText attributeLine ipbcpLine sixLines Option·elim
+opening-read : (own : Address) → fits own → isUnicast own ≡ true → (k : MessageType) (ts : List (List ℕ))
+    → afterLines emptyDraft (versionText ∷ originText own ∷ sessionText ∷ connectionText own ∷ timeText ∷ ipbcpText k ∷ ts) ≡ afterLines (sixLines own) ts
+unfolding afterLines afterLine afterField emptyDraft versionLine needed reached same begins originText originLine sessionLine connectionText connectionLine onParsed withAddress timeLine isTime tokenCount noneEmpty splitOn onFirst partAt digitRun allDigits isDigit ipbcpText attributeLine ipbcpLine sixLines Option·elim
 opening-read own f u k ts = rw (origin-is own, connection-is own f u)
 
 -- ---- the media line and its attributes
-lines-append : (d : Draft) (ts us : List (List ℕ)) (e : Draft) → linesOf d ts ≡ some e → linesOf d (ts ++ us) ≡ linesOf e us
-unfolding linesOf Option·elim
+lines-append : (d : Draft) (ts us : List (List ℕ)) (e : Draft) → afterLines d ts ≡ some e → afterLines d (ts ++ us) ≡ afterLines e us
+unfolding afterLines Option·elim
 lines-append d [] us e p = go p
   where
-    go : some d ≡ some e → linesOf d us ≡ linesOf e us
+    go : some d ≡ some e → afterLines d us ≡ afterLines e us
     go q = let z : d ≡ e = cc in rw z
-lines-append d (t ∷ ts) us e p = go (lineOf d t) p (λ c q. lines-append c ts us e q)
+lines-append d (t ∷ ts) us e p = go (afterLine d t) p (λ c q. lines-append c ts us e q)
   where
-    go : (o : Option Draft) → Option·elim o none (λ c. linesOf c ts) ≡ some e → ((c : Draft) → linesOf c ts ≡ some e → linesOf c (ts ++ us) ≡ linesOf e us)
-        → Option·elim o none (λ c. linesOf c (ts ++ us)) ≡ linesOf e us
+    go : (o : Option Draft) → Option·elim o none (λ c. afterLines c ts) ≡ some e → ((c : Draft) → afterLines c ts ≡ some e → afterLines c (ts ++ us) ≡ afterLines e us)
+        → Option·elim o none (λ c. afterLines c (ts ++ us)) ≡ afterLines e us
     go none q more = let z : _≡_ {A = ℕ} 0 1 = cc in absurd (omega arith)
     go (some c) q more = more c q
 
@@ -117,8 +117,8 @@ unfoldable sevenLines : Address → Stream → Draft
 sevenLines own s = record { had = 7; address = own; stream = s }
 
 module _ (own : Address) (s : Stream) (h : rightMedia s ≡ true) (k : rightAttributes s ≡ true) where
-  media-read : lineOf (sixLines own) (109 ∷ 61 ∷ mediaText s) ≡ some (sevenLines own (part s [] [] 0))
-  unfolding lineOf fieldOf sixLines mediaLine withStream sevenLines part
+  media-read : afterLine (sixLines own) (109 ∷ 61 ∷ mediaText s) ≡ some (sevenLines own (part s [] [] 0))
+  unfolding afterLine afterField sixLines mediaLine withStream sevenLines part
   media-read =
       let (a, b, c, d, e) = media-parts s h in
       let (pm, qm, _) = token-parts (s .media) a in
@@ -142,24 +142,24 @@ module _ (own : Address) (s : Stream) (h : rightMedia s ≡ true) (k : rightAttr
       le-leb (octetsTogether (m ++ map fmtpText fs)) mostAttributes (omega arith)
 
   attribute-read : (t : Stream) (a : List ℕ) → begins ipbcpWord a ≡ false → isAttribute a ≡ true → (u : Stream) → attributeOf t a ≡ some u
-      → lineOf (sevenLines own t) (attributeText a) ≡ some (sevenLines own u)
-  unfolding lineOf fieldOf attributeText attributeLine sevenLines withStream
+      → afterLine (sevenLines own t) (attributeText a) ≡ some (sevenLines own u)
+  unfolding afterLine afterField attributeText attributeLine sevenLines withStream
   attribute-read t a p q u e = rw (p, q, e)
 
   empty : (x : List ℕ) → length x ≡ 0 → x ≡ []
   empty [] e = refl
   empty (b ∷ bs) e = absurd (omega arith)
 
-  no-rtpmap : length (s .rtpmap) ≡ 0 → linesOf (sevenLines own (part s [] [] 0)) (rtpmapLines s) ≡ some (sevenLines own (part s (s .rtpmap) [] 0))
-  unfolding rtpmapLines linesOf
+  no-rtpmap : length (s .rtpmap) ≡ 0 → afterLines (sevenLines own (part s [] [] 0)) (rtpmapLines s) ≡ some (sevenLines own (part s (s .rtpmap) [] 0))
+  unfolding rtpmapLines afterLines
   no-rtpmap e = rw (empty (s .rtpmap) e)
 
   rtpmap-taken : (length (s .rtpmap) ≡ 0 → ⊥) → attributeOf (part s [] [] 0) (rtpmapWord ++ (numberText (s .payload) ++ (32 ∷ s .rtpmap))) ≡ some (part s (s .rtpmap) [] 0)
   unfolding fitting withRtpmap part
   rtpmap-taken e = rtpmap-back (part s [] [] 0) (s .rtpmap) refl (omega arith) payload-low ∙ rw (part-fits [] (s .fmtp) refl)
 
-  one-rtpmap : (length (s .rtpmap) ≡ 0 → ⊥) → linesOf (sevenLines own (part s [] [] 0)) (rtpmapLines s) ≡ some (sevenLines own (part s (s .rtpmap) [] 0))
-  unfolding rtpmapLines rtpmapText linesOf Option·elim begins isAttribute
+  one-rtpmap : (length (s .rtpmap) ≡ 0 → ⊥) → afterLines (sevenLines own (part s [] [] 0)) (rtpmapLines s) ≡ some (sevenLines own (part s (s .rtpmap) [] 0))
+  unfolding rtpmapLines rtpmapText afterLines Option·elim begins isAttribute
   one-rtpmap e =
       let t = part s [] [] 0 in
       let a = rtpmapWord ++ (numberText (s .payload) ++ (32 ∷ s .rtpmap)) in
@@ -167,7 +167,7 @@ module _ (own : Address) (s : Stream) (h : rightMedia s ≡ true) (k : rightAttr
       let f : attributeOf t a ≡ some u = rtpmap-taken e in
       rw (ne-eqb (length (s .rtpmap)) 0 e, attribute-read t a refl refl u f)
 
-  rtpmap-read : linesOf (sevenLines own (part s [] [] 0)) (rtpmapLines s) ≡ some (sevenLines own (part s (s .rtpmap) [] 0))
+  rtpmap-read : afterLines (sevenLines own (part s [] [] 0)) (rtpmapLines s) ≡ some (sevenLines own (part s (s .rtpmap) [] 0))
   rtpmap-read = by-eq (length (s .rtpmap)) 0 _ no-rtpmap one-rtpmap
 
   fmtp-taken : (g : List ℕ) (fs gs : List (List ℕ)) → fs ++ (g ∷ gs) ≡ s .fmtp → attributeOf (part s (s .rtpmap) fs 0) (fmtpWord ++ g) ≡ some (part s (s .rtpmap) (fs ++ (g ∷ [])) 0)
@@ -180,35 +180,35 @@ module _ (own : Address) (s : Stream) (h : rightMedia s ≡ true) (k : rightAttr
       fmtp-back (part s (s .rtpmap) fs 0) g (omega arith) ∙ rw (part-fits (fs ++ (g ∷ [])) gs q)
 
   fmtp-more : (fs : List (List ℕ)) (g : List ℕ) (gs : List (List ℕ)) → fs ++ (g ∷ gs) ≡ s .fmtp
-      → linesOf (sevenLines own (part s (s .rtpmap) (fs ++ (g ∷ [])) 0)) (map fmtpText gs) ≡ some (sevenLines own (part s (s .rtpmap) (s .fmtp) 0))
-      → linesOf (sevenLines own (part s (s .rtpmap) fs 0)) (map fmtpText (g ∷ gs)) ≡ some (sevenLines own (part s (s .rtpmap) (s .fmtp) 0))
-  unfolding linesOf Option·elim fmtpText begins isAttribute
+      → afterLines (sevenLines own (part s (s .rtpmap) (fs ++ (g ∷ [])) 0)) (map fmtpText gs) ≡ some (sevenLines own (part s (s .rtpmap) (s .fmtp) 0))
+      → afterLines (sevenLines own (part s (s .rtpmap) fs 0)) (map fmtpText (g ∷ gs)) ≡ some (sevenLines own (part s (s .rtpmap) (s .fmtp) 0))
+  unfolding afterLines Option·elim fmtpText begins isAttribute
   fmtp-more fs g gs e p =
       rw (attribute-read (part s (s .rtpmap) fs 0) (fmtpWord ++ g) refl refl (part s (s .rtpmap) (fs ++ (g ∷ [])) 0) (fmtp-taken g fs gs e)) p
 
   fmtp-read : (fs gs : List (List ℕ)) → fs ++ gs ≡ s .fmtp
-      → linesOf (sevenLines own (part s (s .rtpmap) fs 0)) (map fmtpText gs) ≡ some (sevenLines own (part s (s .rtpmap) (s .fmtp) 0))
-  unfolding linesOf
+      → afterLines (sevenLines own (part s (s .rtpmap) fs 0)) (map fmtpText gs) ≡ some (sevenLines own (part s (s .rtpmap) (s .fmtp) 0))
+  unfolding afterLines
   fmtp-read fs [] e = let z : fs ≡ s .fmtp = sym (append-nil fs) ∙ e in rw z
   fmtp-read fs (g ∷ gs) e = fmtp-more fs g gs e (fmtp-read (fs ++ (g ∷ [])) gs (append-assoc fs (g ∷ []) gs ∙ e))
 
-  no-ptime : s .ptime ≡ 0 → linesOf (sevenLines own (part s (s .rtpmap) (s .fmtp) 0)) (ptimeLines (s .ptime)) ≡ some (sevenLines own s)
-  unfolding ptimeLines linesOf part
+  no-ptime : s .ptime ≡ 0 → afterLines (sevenLines own (part s (s .rtpmap) (s .fmtp) 0)) (ptimeLines (s .ptime)) ≡ some (sevenLines own s)
+  unfolding ptimeLines afterLines part
   no-ptime e = let z : part s (s .rtpmap) (s .fmtp) 0 ≡ s = ap (λ (n : ℕ). part s (s .rtpmap) (s .fmtp) n) (sym e) in rw (eq-eqb (s .ptime) 0 e) (ap (λ (x : Stream). some (sevenLines own x)) z)
 
-  one-ptime : (s .ptime ≡ 0 → ⊥) → linesOf (sevenLines own (part s (s .rtpmap) (s .fmtp) 0)) (ptimeLines (s .ptime)) ≡ some (sevenLines own s)
-  unfolding ptimeLines ptimeText linesOf Option·elim begins isAttribute part withPtime
+  one-ptime : (s .ptime ≡ 0 → ⊥) → afterLines (sevenLines own (part s (s .rtpmap) (s .fmtp) 0)) (ptimeLines (s .ptime)) ≡ some (sevenLines own s)
+  unfolding ptimeLines ptimeText afterLines Option·elim begins isAttribute part withPtime
   one-ptime e =
       let (_, _, _, most, _) = attribute-parts s k in
       let t = part s (s .rtpmap) (s .fmtp) 0 in
       let f : attributeOf t (ptimeWord ++ numberText (s .ptime)) ≡ some s = ptime-back t (s .ptime) refl (omega arith) most in
       rw (ne-eqb (s .ptime) 0 e, attribute-read t (ptimeWord ++ numberText (s .ptime)) refl refl s f)
 
-  ptime-read : linesOf (sevenLines own (part s (s .rtpmap) (s .fmtp) 0)) (ptimeLines (s .ptime)) ≡ some (sevenLines own s)
+  ptime-read : afterLines (sevenLines own (part s (s .rtpmap) (s .fmtp) 0)) (ptimeLines (s .ptime)) ≡ some (sevenLines own s)
   ptime-read = by-eq (s .ptime) 0 _ no-ptime one-ptime
 
-  stream-read : linesOf (sixLines own) (streamLines s) ≡ some (sevenLines own s)
-  unfolding streamLines linesOf Option·elim fmtpLines
+  stream-read : afterLines (sixLines own) (streamLines s) ≡ some (sevenLines own s)
+  unfolding streamLines afterLines Option·elim fmtpLines
   stream-read =
       rw media-read
       (lines-append (sevenLines own (part s [] [] 0)) (rtpmapLines s) (map fmtpText (s .fmtp) ++ ptimeLines (s .ptime)) (sevenLines own (part s (s .rtpmap) [] 0)) rtpmap-read
@@ -217,17 +217,17 @@ module _ (own : Address) (s : Stream) (h : rightMedia s ≡ true) (k : rightAttr
 
 -- ---- the whole message
 module _ (own : Address) (f : fits own) (u : isUnicast own ≡ true) where
-  described-read : (k : Kind) (s : Stream) → rightMedia s ≡ true → rightAttributes s ≡ true
-      → finish k (linesOf start (versionText ∷ originText own ∷ sessionText ∷ connectionText own ∷ timeText ∷ ipbcpText k ∷ streamLines s)) ≡ described k own s
-  unfolding finish sevenLines
+  described-read : (k : MessageType) (s : Stream) → rightMedia s ≡ true → rightAttributes s ≡ true
+      → concluded k (afterLines emptyDraft (versionText ∷ originText own ∷ sessionText ∷ connectionText own ∷ timeText ∷ ipbcpText k ∷ streamLines s)) ≡ described k own s
+  unfolding concluded sevenLines
   described-read k s h j = rw (opening-read own f u k (streamLines s), stream-read own s h j)
 
-  by-kind : (c : Content) → rightContent c ≡ true → (m : List ℕ) → lines m ≡ messageLines own c → byHead m (Typed 1 (kindIn c)) ≡ readingOf own c
-  unfolding byHead isDescribed kindIn rightContent readingOf messageLines mediaLines
-  by-kind (request s) h m e = let a = and-eq-true-iff (rightMedia s) (rightAttributes s) .0 h in rw e (described-read Request s (a .0) (a .1))
-  by-kind (accepted s) h m e = let a = and-eq-true-iff (rightMedia s) (rightAttributes s) .0 h in rw e (described-read Accepted s (a .0) (a .1))
-  by-kind confused h m e = refl
-  by-kind rejected h m e = refl
+  by-kind : (c : Content) → rightContent c ≡ true → (m : List ℕ) → lines m ≡ messageLines own c → byHead m (Typed 1 (contentType c)) ≡ readingOf own c
+  unfolding byHead isDescribed contentType rightContent readingOf messageLines mediaLines
+  by-kind (requestContent s) h m e = let a = and-eq-true-iff (rightMedia s) (rightAttributes s) .0 h in rw e (described-read Request s (a .0) (a .1))
+  by-kind (acceptedContent s) h m e = let a = and-eq-true-iff (rightMedia s) (rightAttributes s) .0 h in rw e (described-read Accepted s (a .0) (a .1))
+  by-kind confusedContent h m e = refl
+  by-kind rejectedContent h m e = refl
 
   text-read : (c : Content) → rightContent c ≡ true → length (messageText own c) ≤ mostWritten → readMessage (messageText own c) ≡ readingOf own c
   unfolding readMessage headIn messageText
@@ -238,9 +238,9 @@ module _ (own : Address) (f : fits own) (u : isUnicast own ≡ true) where
       (by-kind c h (linesText ts) (lines-written ts all))
 
 -- what stands to be written is in range, is short, and is the text
-pub octets-are : (own : Address) (c : Content) (t : List ℕ) → octetsOf own c ≡ some t
+pub octets-are : (own : Address) (c : Content) (t : List ℕ) → messageOctets own c ≡ some t
     → (isUnicast own ≡ true) × (rightContent c ≡ true) × (length t ≤ mostWritten) × (t ≡ messageText own c)
-unfolding octetsOf
+unfolding messageOctets
 octets-are own c t e =
     let m = messageText own c in
     by-bool (isUnicast own && (rightContent c && leb (length m) mostWritten)) _
@@ -253,7 +253,7 @@ octets-are own c t e =
     (λ h. let q : none ≡ some t = rw h at e in absurd (let z : _≡_ {A = ℕ} 0 1 = cc in omega arith))
 
 -- Every message that can be written is read as what was written.
-pub read-written : (own : Address) (c : Content) (t : List ℕ) → fits own → octetsOf own c ≡ some t → readMessage t ≡ readingOf own c
+pub read-written : (own : Address) (c : Content) (t : List ℕ) → fits own → messageOctets own c ≡ some t → readMessage t ≡ readingOf own c
 read-written own c t f e =
     let (u, h, l, is) = octets-are own c t e in
     rw is (text-read own f u c h (omega (arith, ap (λ (x : List ℕ). length x) is)))

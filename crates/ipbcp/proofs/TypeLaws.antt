@@ -27,47 +27,47 @@ use Rattle.sdp.specs.Lines.{inLines}
 use Rattle.sdp.specs.Cut.{firstLine, lineIn}
 use Rattle.sdp.proofs.CutLaws.{loop-lines, loop-inLines, loop-none, loop-end}
 use Rattle.description.specs.Meaning.{isIpbcp}
-use Rattle.ipbcp.specs.declared.Kind.{Kind}
+use Rattle.ipbcp.specs.declared.MessageType.{MessageType}
 use Rattle.ipbcp.specs.declared.Word.{Word}
 use Rattle.ipbcp.specs.declared.Word.the-variants.{Known, Unknown}
 use Rattle.ipbcp.specs.declared.Head.{Head}
 use Rattle.ipbcp.specs.declared.Head.the-variants.{Typed, Untyped}
-use Rattle.ipbcp.specs.Types.{kindOf, headOf, withoutBlank, firstHead, headIn}
+use Rattle.ipbcp.specs.Types.{typeNamed, headFrom, withoutBlank, firstHead, headIn}
 use Rattle.ipbcp.specs.Meaning.{wordIn}
 
 -- ---- a version and a type: y is the cut into two tokens
 module _ (s : List ℕ) (y : Two) (cut : twoBy s y ≡ tokensOf 2 s) where
-  pub head-few : y ≡ two.Other → Untyped ≡ headOf s
-  unfolding headOf
+  pub head-few : y ≡ two.Other → Untyped ≡ headFrom s
+  unfolding headFrom
   head-few e = rw (two-isnt s y cut e)
 
   module _ (a : ℕ) (q : y ≡ two.Lengths a) (x : List ℕ) (first : x ≡ take a s) (z : Number) (is : z ≡ readNumber x) where
     number : (w : Number) → z ≡ w → readNumber (token 0 s) ≡ w
     number w e = rw (two-first s y cut a q, ← first) (sym is ∙ e)
 
-    pub head-bad-number : z ≡ Bad → Untyped ≡ headOf s
-    unfolding headOf onNumber
+    pub head-bad-number : z ≡ Bad → Untyped ≡ headFrom s
+    unfolding headFrom onNumber
     head-bad-number e = rw (two-count s y cut a q, number Bad e)
 
     module _ (n : ℕ) (e : z ≡ Value n) where
-      pub head-large : 255 < n → Untyped ≡ headOf s
-      unfolding headOf onNumber
+      pub head-large : 255 < n → Untyped ≡ headFrom s
+      unfolding headFrom onNumber
       head-large h = rw (two-count s y cut a q, number (Value n) e, lt-leb n 255 h)
 
-      module _ (small : n ≤ 255) (b : List ℕ) (second : b ≡ drop (a + 1) s) (w : Word) (word : wordIn w ≡ kindOf b) where
-        kind : kindOf (token 1 s) ≡ wordIn w
+      module _ (small : n ≤ 255) (b : List ℕ) (second : b ≡ drop (a + 1) s) (w : Word) (word : wordIn w ≡ typeNamed b) where
+        kind : typeNamed (token 1 s) ≡ wordIn w
         kind = rw (two-second s y cut a q, ← second) (sym word)
 
-        pub head-unknown : w ≡ Unknown → Untyped ≡ headOf s
-        unfolding headOf onNumber wordIn Option·elim
+        pub head-unknown : w ≡ Unknown → Untyped ≡ headFrom s
+        unfolding headFrom onNumber wordIn Option·elim
         head-unknown u =
-            let k : kindOf (token 1 s) ≡ none = kind ∙ ap wordIn u in
+            let k : typeNamed (token 1 s) ≡ none = kind ∙ ap wordIn u in
             rw (two-count s y cut a q, number (Value n) e, le-leb n 255 small, k)
 
-        pub head-known : (d : Kind) → w ≡ Known d → Typed n d ≡ headOf s
-        unfolding headOf onNumber wordIn Option·elim
+        pub head-known : (d : MessageType) → w ≡ Known d → Typed n d ≡ headFrom s
+        unfolding headFrom onNumber wordIn Option·elim
         head-known d u =
-            let k : kindOf (token 1 s) ≡ some d = kind ∙ ap wordIn u in
+            let k : typeNamed (token 1 s) ≡ some d = kind ∙ ap wordIn u in
             rw (two-count s y cut a q, number (Value n) e, le-leb n 255 small, k)
 
 pub ruleset typing = (head-few, head-bad-number, head-large, head-unknown, head-known)
@@ -94,7 +94,7 @@ pub ruleset blanks = (blank-none, blank-yes, blank-no)
 module _ (m : List ℕ) (i : ℕ) (y : Line) (w : lineIn m y ≡ some (firstLine (drop i m))) (letter : ℕ) (value : Span) (n : ℕ) (q : y ≡ Text letter value n) where
   -- the ipbcp line says version and type, if lines stand after it; another line leaves them to those
   pub head-moved : headIn (drop i m)
-      ≡ cond (isIpbcp letter (textOf m value)) (cond (inLines (drop n m)) (headOf (withoutBlank (drop 6 (textOf m value)))) Untyped) (headIn (drop n m))
+      ≡ cond (isIpbcp letter (textOf m value)) (cond (inLines (drop n m)) (headFrom (withoutBlank (drop 6 (textOf m value)))) Untyped) (headIn (drop n m))
   unfolding headIn firstHead isIpbcp begins
   head-moved =
       by-bool (isIpbcp letter (textOf m value)) _
@@ -125,7 +125,7 @@ module _ (m : List ℕ) (i : ℕ) (x : Head) (inv : headIn (drop i m) ≡ x) whe
 
       -- what is after it is r, and u says whether it is made of lines
       module _ (r : List ℕ) (rest : r ≡ drop n m) (u : Bool) (lined : u ≡ inLines r) (e : t ≡ true) where
-        said : cond u (headOf (withoutBlank (drop 6 s))) Untyped ≡ x
+        said : cond u (headFrom (withoutBlank (drop 6 s))) Untyped ≡ x
         said =
             let z : inLines (drop n m) ≡ u = rw (← rest) (sym lined) in
             rw at (sym (head-moved m i y w letter value n q ∙ rw (ipbcp true e, z)) ∙ inv)
@@ -133,7 +133,7 @@ module _ (m : List ℕ) (i : ℕ) (x : Head) (inv : headIn (drop i m) ≡ x) whe
         pub head-bad : u ≡ false → Untyped ≡ x
         head-bad b = rw b at said
 
-        pub head-found : u ≡ true → (h : Head) → h ≡ headOf (withoutBlank (drop 6 s)) → h ≡ x
+        pub head-found : u ≡ true → (h : Head) → h ≡ headFrom (withoutBlank (drop 6 s)) → h ≡ x
         head-found b h d = d ∙ (rw b at said)
 
 pub ruleset heads = (head-end, head-none, head-more, head-bad, head-found)

@@ -20,10 +20,10 @@ use Rattle.address.specs.declared.Address.the-variants.{V4, V6}
 use Rattle.address.specs.Canonical.{addressText}
 use Rattle.address.proofs.Visible.{address-has}
 use Rattle.media.specs.Stream.{Stream, mediaText, rtpmapWord, fmtpWord, ptimeWord, attributeText, rtpmapText, fmtpText, ptimeText, rtpmapLines, fmtpLines, octetsTogether, attributesFit, mostAttributes}
-use Rattle.ipbcp.specs.declared.Kind.{Kind}
-use Rattle.ipbcp.specs.declared.Kind.the-variants.{Request, Accepted, Confused, Rejected}
-use Rattle.ipbcp.specs.Types.{wordOf}
-use Rattle.ipbcp.specs.Writing.{Content, request, accepted, confused, rejected, familyWord, hostText, versionText, originText, sessionText, connectionText, timeText, ipbcpText, ptimeLines, streamLines, kindIn, mediaLines, messageLines, isToken, allTextsPlain, rightMedia, rightAttributes, rightContent}
+use Rattle.ipbcp.specs.declared.MessageType.{MessageType}
+use Rattle.ipbcp.specs.declared.MessageType.the-variants.{Request, Accepted, Confused, Rejected}
+use Rattle.ipbcp.specs.Types.{typeWord}
+use Rattle.ipbcp.specs.Writing.{Content, requestContent, acceptedContent, confusedContent, rejectedContent, familyWord, hostText, versionText, originText, sessionText, connectionText, timeText, ipbcpText, ptimeLines, streamLines, contentType, mediaLines, messageLines, isToken, allTextsPlain, rightMedia, rightAttributes, rightContent}
 
 -- ---- texts that are plain
 or-no : (a b : Bool) → (a || b) ≡ false → (a ≡ false) × (b ≡ false)
@@ -113,8 +113,8 @@ connection-line : (a : Address) → isLine (connectionText a) ≡ true
 unfolding connectionText
 connection-line a = line-is 99 (hostText a) refl (host-plain a)
 
-ipbcp-line : (k : Kind) → isLine (ipbcpText k) ≡ true
-unfolding ipbcpText wordOf isLine allPlain isPlain
+ipbcp-line : (k : MessageType) → isLine (ipbcpText k) ≡ true
+unfolding ipbcpText typeWord isLine allPlain isPlain
 ipbcp-line Request = refl
 ipbcp-line Accepted = refl
 ipbcp-line Confused = refl
@@ -189,16 +189,16 @@ stream-lines s h k =
 
 content-lines : (c : Content) → rightContent c ≡ true → allLines (mediaLines c) ≡ true
 unfolding rightContent mediaLines
-content-lines (request s) h = let a = and-eq-true-iff (rightMedia s) (rightAttributes s) .0 h in stream-lines s (a .0) (a .1)
-content-lines (accepted s) h = let a = and-eq-true-iff (rightMedia s) (rightAttributes s) .0 h in stream-lines s (a .0) (a .1)
-content-lines confused h = no-lines
-content-lines rejected h = no-lines
+content-lines (requestContent s) h = let a = and-eq-true-iff (rightMedia s) (rightAttributes s) .0 h in stream-lines s (a .0) (a .1)
+content-lines (acceptedContent s) h = let a = and-eq-true-iff (rightMedia s) (rightAttributes s) .0 h in stream-lines s (a .0) (a .1)
+content-lines confusedContent h = no-lines
+content-lines rejectedContent h = no-lines
 
-opening-lines : (own : Address) (k : Kind) (ts : List (List ℕ)) → allLines ts ≡ true
+opening-lines : (own : Address) (k : MessageType) (ts : List (List ℕ)) → allLines ts ≡ true
     → allLines (versionText ∷ originText own ∷ sessionText ∷ connectionText own ∷ timeText ∷ ipbcpText k ∷ ts) ≡ true
 unfolding allLines isLine allPlain isPlain
 opening-lines own k ts h = rw (origin-line own, connection-line own, ipbcp-line k, h)
 
 pub message-lines : (own : Address) (c : Content) → rightContent c ≡ true → allLines (messageLines own c) ≡ true
 unfolding messageLines
-message-lines own c h = opening-lines own (kindIn c) (mediaLines c) (content-lines c h)
+message-lines own c h = opening-lines own (contentType c) (mediaLines c) (content-lines c h)

@@ -4,7 +4,7 @@ use Prim.Native.Nat.{ℕ}
 use mathlib.Core.List.{List}
 use mathlib.Core.Option.{Option, none, some, Option·map}
 use Rattle.media.specs.Meaning.{streamIn}
-use Rattle.ipbcp.specs.declared.Kind.{Kind}
+use Rattle.ipbcp.specs.declared.MessageType.{MessageType}
 use Rattle.ipbcp.specs.declared.Word.{Word}
 use Rattle.ipbcp.specs.declared.Word.the-variants.{Known, Unknown}
 use Rattle.ipbcp.specs.declared.Message.{Message}
@@ -12,7 +12,7 @@ use Rattle.ipbcp.specs.declared.Message.the-variants as answer
 use Rattle.ipbcp.specs.declared.Body.{Body}
 use Rattle.ipbcp.specs.declared.Body.the-variants as body
 use Rattle.ipbcp.specs.Reading.{Reading, refused, typed, described}
-use Rattle.ipbcp.specs.Writing.{Content, request, accepted, confused, rejected}
+use Rattle.ipbcp.specs.Writing.{Content, requestContent, acceptedContent, confusedContent, rejectedContent}
 
 -- document 01's number and values for each answer
 unfoldable pub readingIn : List ℕ → Message → Option Reading
@@ -21,12 +21,12 @@ readingIn m (answer.Typed version kind) = some (typed version kind)
 readingIn m (answer.Described kind address stream) = Option·map (described kind address) (streamIn m stream)
 
 unfoldable pub contentIn : List ℕ → Body → Option Content
-contentIn source (body.Request s) = Option·map request (streamIn source s)
-contentIn source (body.Accepted s) = Option·map accepted (streamIn source s)
-contentIn source body.Confused = some confused
-contentIn source body.Rejected = some rejected
+contentIn source (body.Request s) = Option·map requestContent (streamIn source s)
+contentIn source (body.Accepted s) = Option·map acceptedContent (streamIn source s)
+contentIn source body.Confused = some confusedContent
+contentIn source body.Rejected = some rejectedContent
 
 -- for the code's word of a type
-unfoldable pub wordIn : Word → Option Kind
+unfoldable pub wordIn : Word → Option MessageType
 wordIn (Known k) = some k
 wordIn Unknown = none

@@ -9,9 +9,9 @@ use lib.Dec.{eqb, leb}
 use Rattle.sdp.specs.Lines.{lines}
 use Rattle.address.specs.declared.Address.{Address}
 use Rattle.media.specs.Stream.{Stream}
-use Rattle.description.specs.Draft.{Draft, start, lineOf}
-use Rattle.ipbcp.specs.declared.Kind.{Kind}
-use Rattle.ipbcp.specs.declared.Kind.the-variants.{Request, Accepted, Confused, Rejected}
+use Rattle.description.specs.Draft.{Draft, emptyDraft, afterLine}
+use Rattle.ipbcp.specs.declared.MessageType.{MessageType}
+use Rattle.ipbcp.specs.declared.MessageType.the-variants.{Request, Accepted, Confused, Rejected}
 use Rattle.ipbcp.specs.declared.Head.{Head}
 use Rattle.ipbcp.specs.declared.Head.the-variants.{Typed, Untyped}
 use Rattle.ipbcp.specs.Types.{headIn}
@@ -20,21 +20,21 @@ use Rattle.ipbcp.specs.Types.{headIn}
 -- of version 1, with the address of `c=` and what the media line and its attributes say.
 pub data Reading : Type 0 where
   refused : ℕ → Reading
-  typed : ℕ → Kind → Reading
-  described : Kind → Address → Stream → Reading
+  typed : ℕ → MessageType → Reading
+  described : MessageType → Address → Stream → Reading
 
 -- the draft of all lines, if none is wrong
-unfoldable pub linesOf : Draft → List (List ℕ) → Option Draft
-linesOf d [] = some d
-linesOf d (t ∷ ts) = Option·elim (lineOf d t) none (λ e. linesOf e ts)
+unfoldable pub afterLines : Draft → List (List ℕ) → Option Draft
+afterLines d [] = some d
+afterLines d (t ∷ ts) = Option·elim (afterLine d t) none (λ e. afterLines e ts)
 
 -- number 10: a wrong line, or not all seven that are needed
-unfoldable pub finish : Kind → Option Draft → Reading
-finish k none = refused 10
-finish k (some d) = cond (eqb (d .had) 7) (described k (d .address) (d .stream)) (refused 10)
+unfoldable pub concluded : MessageType → Option Draft → Reading
+concluded k none = refused 10
+concluded k (some d) = cond (eqb (d .had) 7) (described k (d .address) (d .stream)) (refused 10)
 
 -- of Confused and Rejected no more than the type is read
-unfoldable pub isDescribed : Kind → Bool
+unfoldable pub isDescribed : MessageType → Bool
 isDescribed Request = true
 isDescribed Accepted = true
 isDescribed Confused = false
@@ -45,7 +45,7 @@ unfoldable pub byHead : List ℕ → Head → Reading
 byHead m Untyped = refused 9
 byHead m (Typed version kind) =
     cond (eqb version 1)
-    (cond (isDescribed kind) (finish kind (linesOf start (lines m))) (typed version kind))
+    (cond (isDescribed kind) (concluded kind (afterLines emptyDraft (lines m))) (typed version kind))
     (typed version kind)
 
 -- number 8 is given above this

@@ -13,50 +13,50 @@ use Rattle.address.specs.declared.Address.{Address}
 use Rattle.media.specs.declared.Stream.{Stream as Places}
 use Rattle.media.specs.declared.Taken.{Taken}
 use Rattle.media.specs.Meaning.{streamBy}
-use Rattle.description.specs.Draft.{Draft, start, mediaLine}
-use Rattle.description.specs.Meaning.{between, later, laterBy}
-use Rattle.ipbcp.specs.declared.Kind.{Kind}
+use Rattle.description.specs.Draft.{Draft, emptyDraft, mediaLine}
+use Rattle.description.specs.Meaning.{afterIpbcp, afterMedia, afterMediaBy}
+use Rattle.ipbcp.specs.declared.MessageType.{MessageType}
 use Rattle.ipbcp.specs.declared.Head.{Head}
 use Rattle.ipbcp.specs.declared.Head.the-variants.{Typed, Untyped}
 use Rattle.ipbcp.specs.Types.{headIn}
-use Rattle.ipbcp.specs.Reading.{typed, linesOf, isDescribed, byHead}
+use Rattle.ipbcp.specs.Reading.{typed, afterLines, isDescribed, byHead}
 
 -- d with all lines of m
-unfoldable pub wholeOf : Draft → List ℕ → Option Draft
-wholeOf d m = cond (inLines m) (linesOf d (lines m)) none
+unfoldable pub afterText : Draft → List ℕ → Option Draft
+afterText d m = cond (inLines m) (afterLines d (lines m)) none
 
 -- the same after a line that may be wrong
-unfoldable pub withLines : Option Draft → List ℕ → Option Draft
-withLines o m = Option·elim o none (λ d. wholeOf d m)
+unfoldable pub afterTextIf : Option Draft → List ℕ → Option Draft
+afterTextIf o m = Option·elim o none (λ d. afterText d m)
 
 -- o, if it has all seven needed lines
-unfoldable pub ended : Option Draft → Option Draft
-ended none = none
-ended (some d) = cond (eqb (d .had) 7) (some d) none
+unfoldable pub complete : Option Draft → Option Draft
+complete none = none
+complete (some d) = cond (eqb (d .had) 7) (some d) none
 
 -- r is the stream s with the lines of m from `from` on after its media line, whatever the address is
 pub record LaterLines (m : List ℕ) (s : Places) (from : ℕ) (r : Taken) : Type 0 where
-  pub is : (a : Address) → laterBy a m r ≡ wholeOf (later a (streamBy m s)) (drop from m)
+  pub is : (a : Address) → afterMediaBy a m r ≡ afterText (afterMedia a (streamBy m s)) (drop from m)
 
 -- r is the stream of the media line with the value of v, and of the lines of m from `from` on after it
 pub record MediaLines (m : List ℕ) (v : Span) (from : ℕ) (r : Taken) : Type 0 where
-  pub is : (a : Address) → laterBy a m r ≡ withLines (mediaLine (between a) (textOf m v)) (drop from m)
+  pub is : (a : Address) → afterMediaBy a m r ≡ afterTextIf (mediaLine (afterIpbcp a) (textOf m v)) (drop from m)
 
 -- r is the stream of the lines of m from `from` on, after an ipbcp line
 pub record StreamLines (m : List ℕ) (from : ℕ) (r : Taken) : Type 0 where
-  pub is : (a : Address) → laterBy a m r ≡ ended (wholeOf (between a) (drop from m))
+  pub is : (a : Address) → afterMediaBy a m r ≡ complete (afterText (afterIpbcp a) (drop from m))
 
 -- the lines of m before `from` are right; the last is the ipbcp line, which says h, and the address is theirs
 pub record Reached (m : List ℕ) (h : Head) (address : Address) (from : ℕ) : Type 0 where
-  pub lines : wholeOf (between address) (drop from m) ≡ wholeOf start m
+  pub lines : afterText (afterIpbcp address) (drop from m) ≡ afterText emptyDraft m
   pub head : cond (inLines (drop from m)) h Untyped ≡ headIn m
 
 -- the lines of m before `from` are right, and say this version and type, of which no more is read
-pub record TypeAlone (m : List ℕ) (version : ℕ) (kind : Kind) (from : ℕ) : Type 0 where
+pub record TypeAlone (m : List ℕ) (version : ℕ) (kind : MessageType) (from : ℕ) : Type 0 where
   pub head : cond (inLines (drop from m)) (Typed version kind) Untyped ≡ headIn m
   pub alone : byHead m (Typed version kind) ≡ typed version kind
 
 -- they are those of a Request or Accepted of version 1
-pub record Describes (m : List ℕ) (kind : Kind) (address : Address) (from : ℕ) : Type 0 where
+pub record Describes (m : List ℕ) (kind : MessageType) (address : Address) (from : ℕ) : Type 0 where
   pub reached : Reached m (Typed 1 kind) address from
   pub more : isDescribed kind ≡ true

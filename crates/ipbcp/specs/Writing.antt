@@ -6,6 +6,7 @@ use mathlib.Core.Option.{Option, none, some}
 use lib.ListN.{length}
 use lib.Dec.{eqb, leb, ltb}
 use Rattle.octets.specs.Split.{has}
+use Rattle.octets.specs.Text.{ascii, blank}
 use Rattle.sdp.specs.Lines.{allPlain}
 use Rattle.sdp.specs.Written.{linesText}
 use Rattle.address.specs.declared.Address.{Address}
@@ -14,50 +15,48 @@ use Rattle.address.specs.Kinds.{isUnicast}
 use Rattle.address.specs.Canonical.{addressText}
 use Rattle.media.specs.Stream.{Stream, mediaText, rtpmapLines, fmtpLines, ptimeText, attributesFit}
 use Rattle.description.specs.Draft.{inWord, ip4Word, ip6Word}
-use Rattle.ipbcp.specs.declared.Kind.{Kind}
-use Rattle.ipbcp.specs.declared.Kind.the-variants.{Request, Accepted, Confused, Rejected}
-use Rattle.ipbcp.specs.Types.{ipbcpStart, wordOf}
+use Rattle.ipbcp.specs.declared.MessageType.{MessageType}
+use Rattle.ipbcp.specs.declared.MessageType.the-variants.{Request, Accepted, Confused, Rejected}
+use Rattle.ipbcp.specs.Types.{ipbcpStart, typeWord}
 use Rattle.ipbcp.specs.Reading.{Reading, typed, described}
 
 -- what can be written: one of the four types, a Request or Accepted with a media line
 pub data Content : Type 0 where
-  request : Stream → Content
-  accepted : Stream → Content
-  confused : Content
-  rejected : Content
+  requestContent : Stream → Content
+  acceptedContent : Stream → Content
+  confusedContent : Content
+  rejectedContent : Content
 
 -- ---- the lines, without their ends
 unfoldable pub familyWord : Address → List ℕ
 familyWord (V4 n) = ip4Word
 familyWord (V6 h l) = ip6Word
 
--- "IN", the family and the address
+-- the family and the address
 unfoldable pub hostText : Address → List ℕ
-hostText a = inWord ++ (32 ∷ (familyWord a ++ (32 ∷ addressText a)))
+hostText a = inWord ++ (blank ∷ (familyWord a ++ (blank ∷ addressText a)))
 
--- "v=0"
 abbrev pub versionText : List ℕ
-versionText = 118 ∷ 61 ∷ 48 ∷ []
+versionText = ascii "v=0"
 
--- "o=- 0 0 " and the own address
+-- the own address
 unfoldable pub originText : Address → List ℕ
-originText a = 111 ∷ 61 ∷ 45 ∷ 32 ∷ 48 ∷ 32 ∷ 48 ∷ 32 ∷ hostText a
+originText a = ascii "o=- 0 0 " ++ hostText a
 
--- "s= "
+-- a blank, since `s=` needs one octet at least
 abbrev pub sessionText : List ℕ
-sessionText = 115 ∷ 61 ∷ 32 ∷ []
+sessionText = ascii "s= "
 
--- "c=" and the own address
+-- the own address
 unfoldable pub connectionText : Address → List ℕ
-connectionText a = 99 ∷ 61 ∷ hostText a
+connectionText a = ascii "c=" ++ hostText a
 
--- "t=0 0"
 abbrev pub timeText : List ℕ
-timeText = 116 ∷ 61 ∷ 48 ∷ 32 ∷ 48 ∷ []
+timeText = ascii "t=0 0"
 
--- "a=ipbcp:1 " and the type
-unfoldable pub ipbcpText : Kind → List ℕ
-ipbcpText k = ipbcpStart ++ (49 ∷ 32 ∷ wordOf k)
+-- version 1 and the type
+unfoldable pub ipbcpText : MessageType → List ℕ
+ipbcpText k = ipbcpStart ++ (ascii "1 " ++ typeWord k)
 
 -- of a packet time, none or one
 unfoldable pub ptimeLines : ℕ → List (List ℕ)
@@ -67,33 +66,33 @@ ptimeLines n = cond (eqb n 0) [] (ptimeText n ∷ [])
 abbrev pub attributeLines : Stream → List (List ℕ)
 attributeLines s = rtpmapLines s ++ (fmtpLines s ++ ptimeLines (s .ptime))
 
--- "m=" and what it says, and the attributes
+-- the media line, and the attributes
 unfoldable pub streamLines : Stream → List (List ℕ)
-streamLines s = (109 ∷ 61 ∷ mediaText s) ∷ attributeLines s
+streamLines s = (ascii "m=" ++ mediaText s) ∷ attributeLines s
 
-unfoldable pub kindIn : Content → Kind
-kindIn (request s) = Request
-kindIn (accepted s) = Accepted
-kindIn confused = Confused
-kindIn rejected = Rejected
+unfoldable pub contentType : Content → MessageType
+contentType (requestContent s) = Request
+contentType (acceptedContent s) = Accepted
+contentType confusedContent = Confused
+contentType rejectedContent = Rejected
 
 unfoldable pub mediaLines : Content → List (List ℕ)
-mediaLines (request s) = streamLines s
-mediaLines (accepted s) = streamLines s
-mediaLines confused = []
-mediaLines rejected = []
+mediaLines (requestContent s) = streamLines s
+mediaLines (acceptedContent s) = streamLines s
+mediaLines confusedContent = []
+mediaLines rejectedContent = []
 
 unfoldable pub messageLines : Address → Content → List (List ℕ)
 messageLines own c =
-    versionText ∷ originText own ∷ sessionText ∷ connectionText own ∷ timeText ∷ ipbcpText (kindIn c) ∷ mediaLines c
+    versionText ∷ originText own ∷ sessionText ∷ connectionText own ∷ timeText ∷ ipbcpText (contentType c) ∷ mediaLines c
 
 unfoldable pub messageText : Address → Content → List ℕ
 messageText own c = linesText (messageLines own c)
 
 -- ---- what is in range: just what would be read back
--- not empty, without a blank (32), and of octets that may stand in a line
+-- not empty, without a blank, and of octets that may stand in a line
 unfoldable pub isToken : List ℕ → Bool
-isToken t = ltb 0 (length t) && (not (has 32 t) && allPlain t)
+isToken t = ltb 0 (length t) && (not (has blank t) && allPlain t)
 
 unfoldable pub allTextsPlain : List (List ℕ) → Bool
 allTextsPlain [] = true
@@ -109,35 +108,35 @@ rightAttributes s =
     allPlain (s .rtpmap) && (leb (length (s .fmtp)) 3 && (allTextsPlain (s .fmtp) && (leb (s .ptime) 255 && attributesFit s)))
 
 unfoldable pub rightContent : Content → Bool
-rightContent (request s) = rightMedia s && rightAttributes s
-rightContent (accepted s) = rightMedia s && rightAttributes s
-rightContent confused = true
-rightContent rejected = true
+rightContent (requestContent s) = rightMedia s && rightAttributes s
+rightContent (acceptedContent s) = rightMedia s && rightAttributes s
+rightContent confusedContent = true
+rightContent rejectedContent = true
 
 -- the longest message that is written
 abbrev pub mostWritten : ℕ
 mostWritten = 447
 
 -- the octets to write: none where a field is out of range or the message would be too long
-unfoldable pub octetsOf : Address → Content → Option (List ℕ)
-octetsOf own c =
+unfoldable pub messageOctets : Address → Content → Option (List ℕ)
+messageOctets own c =
     cond (isUnicast own && (rightContent c && leb (length (messageText own c)) mostWritten)) (some (messageText own c)) none
 
 -- the same where there may be no content at all
-unfoldable pub octetsIn : Address → Option Content → Option (List ℕ)
-octetsIn own none = none
-octetsIn own (some c) = octetsOf own c
+unfoldable pub messageOctetsIn : Address → Option Content → Option (List ℕ)
+messageOctetsIn own none = none
+messageOctetsIn own (some c) = messageOctets own c
 
 -- what such a message is read as
 unfoldable pub readingOf : Address → Content → Reading
-readingOf own (request s) = described Request own s
-readingOf own (accepted s) = described Accepted own s
-readingOf own confused = typed 1 Confused
-readingOf own rejected = typed 1 Rejected
+readingOf own (requestContent s) = described Request own s
+readingOf own (acceptedContent s) = described Accepted own s
+readingOf own confusedContent = typed 1 Confused
+readingOf own rejectedContent = typed 1 Rejected
 
 -- media and transport of what is written, if it has a media line, have at most twelve octets together
 unfoldable pub voice : Content → Type 0
-voice (request s) = length (s .media) + length (s .transport) ≤ 12
-voice (accepted s) = length (s .media) + length (s .transport) ≤ 12
-voice confused = 0 ≤ 0
-voice rejected = 0 ≤ 0
+voice (requestContent s) = length (s .media) + length (s .transport) ≤ 12
+voice (acceptedContent s) = length (s .media) + length (s .transport) ≤ 12
+voice confusedContent = 0 ≤ 0
+voice rejectedContent = 0 ≤ 0

@@ -3,10 +3,10 @@ pub mod types;
 
 ghost use mathlib.Core.Path.{_≡_};
 ghost use mathlib.Core.Option.{none, some};
-ghost use Rattle.description.specs.Draft.{start};
+ghost use Rattle.description.specs.Draft.{emptyDraft};
 ghost use Rattle.ipbcp.specs.Types.{headIn};
 ghost use Rattle.ipbcp.specs.Reading.{isDescribed, byHead, readMessage};
-ghost use Rattle.ipbcp.specs.Whole.{wholeOf, ended, LaterLines, MediaLines, StreamLines, Reached, TypeAlone, Describes};
+ghost use Rattle.ipbcp.specs.Whole.{afterText, complete, LaterLines, MediaLines, StreamLines, Reached, TypeAlone, Describes};
 ghost use Rattle.ipbcp.specs.Meaning.{readingIn};
 use address::Address;
 use description::Extended;
@@ -21,7 +21,7 @@ use sdp::Line;
 pub const MOST_READ: usize = 512;
 
 // The type of a message.
-pub enum Kind {
+pub enum MessageType {
     Request,
     Accepted,
     Confused,
@@ -30,13 +30,13 @@ pub enum Kind {
 
 // The type that a word names.
 enum Word {
-    Known(Kind),
+    Known(MessageType),
     Unknown,
 }
 
 // What the ipbcp line says: the version and the type, if it is one.
 pub enum Head {
-    Typed { version: u8, kind: Kind },
+    Typed { version: u8, kind: MessageType },
     Untyped,
 }
 
@@ -47,11 +47,11 @@ pub enum Message {
     // Another version, or a Confused or Rejected: nothing more is read.
     Typed {
         version: u8,
-        kind: Kind,
+        kind: MessageType,
     },
     // A Request or Accepted of version 1. The texts of the stream are places in the message.
     Described {
-        kind: Kind,
+        kind: MessageType,
         address: Address,
         stream: Stream,
     },
@@ -126,20 +126,20 @@ fn read_stream(m: &[u8], from: usize) -> Taken
 }
 
 // A message of this type says more than its type.
-fn is_described(kind: Kind) -> bool
+fn is_described(kind: MessageType) -> bool
     ensures { λ r. ⌜ r ≡ isDescribed kind ⌝ }
 {
     match kind {
-        Kind::Request => true,
-        Kind::Accepted => true,
-        Kind::Confused => false,
-        Kind::Rejected => false,
+        MessageType::Request => true,
+        MessageType::Accepted => true,
+        MessageType::Confused => false,
+        MessageType::Rejected => false,
     }
 }
 
 // The answer to m, of whose lines one is wrong or missing: its version and type alone, or number 9 or 10.
 fn by_type(m: &[u8]) -> Message
-    requires { ⌜ ended (wholeOf start (now m)) ≡ none ⌝ }
+    requires { ⌜ complete (afterText emptyDraft (now m)) ≡ none ⌝ }
     ensures { λ r. ⌜ readingIn (now (m .entry)) r ≡ some (byHead (now (m .entry)) (headIn (now (m .entry)))) ⌝ }
 {
     let Head::Typed { version, kind } = types::read_head(m) else {
@@ -155,7 +155,7 @@ fn by_type(m: &[u8]) -> Message
 }
 
 // The answer to m by this version and type alone; the lines from `from` on are looked at for their form.
-fn type_alone(version: u8, kind: Kind, m: &[u8], from: usize) -> Message
+fn type_alone(version: u8, kind: MessageType, m: &[u8], from: usize) -> Message
     requires { ⌜ TypeAlone (now m) version kind from ⌝ }
     ensures { λ r. ⌜ readingIn (now (m .entry)) r ≡ some (byHead (now (m .entry)) (headIn (now (m .entry)))) ⌝ }
 {
@@ -166,7 +166,7 @@ fn type_alone(version: u8, kind: Kind, m: &[u8], from: usize) -> Message
 }
 
 // The answer to m, a Request or Accepted of version 1, whose lines from `from` on stand after the ipbcp line.
-fn describe(kind: Kind, address: Address, m: &[u8], from: usize) -> Message
+fn describe(kind: MessageType, address: Address, m: &[u8], from: usize) -> Message
     requires { ⌜ Describes (now m) kind address from ⌝ }
     ensures { λ r. ⌜ readingIn (now (m .entry)) r ≡ some (byHead (now (m .entry)) (headIn (now (m .entry)))) ⌝ }
 {

@@ -1,10 +1,10 @@
 // The version and the type of a message.
 ghost use mathlib.Core.Path.{_≡_};
 ghost use lib.ListN.{drop};
-ghost use Rattle.ipbcp.specs.Types.{kindOf, headOf, withoutBlank, headIn};
+ghost use Rattle.ipbcp.specs.Types.{typeNamed, headFrom, withoutBlank, headIn};
 ghost use Rattle.ipbcp.specs.Meaning.{wordIn};
 use crate::Head;
-use crate::Kind;
+use crate::MessageType;
 use crate::Word;
 use octets::Number;
 use octets::decimal::read_number;
@@ -18,26 +18,26 @@ use texts::cut_two;
 
 // The type that w names.
 fn read_word(w: &[u8]) -> Word
-    ensures { λ r. ⌜ wordIn r ≡ kindOf (now (w .entry)) ⌝ }
+    ensures { λ r. ⌜ wordIn r ≡ typeNamed (now (w .entry)) ⌝ }
 {
     if equals(b"Request", w) {
-        return Word::Known(Kind::Request);
+        return Word::Known(MessageType::Request);
     }
     if equals(b"Accepted", w) {
-        return Word::Known(Kind::Accepted);
+        return Word::Known(MessageType::Accepted);
     }
     if equals(b"Confused", w) {
-        return Word::Known(Kind::Confused);
+        return Word::Known(MessageType::Confused);
     }
     if equals(b"Rejected", w) {
-        return Word::Known(Kind::Rejected);
+        return Word::Known(MessageType::Rejected);
     }
     Word::Unknown
 }
 
 // s is a version and a type.
 fn head_of(s: &[u8]) -> Head
-    ensures { λ r. ⌜ r ≡ headOf (now (s .entry)) ⌝ }
+    ensures { λ r. ⌜ r ≡ headFrom (now (s .entry)) ⌝ }
 {
     let Two::Lengths(a) = cut_two(s) else {
         return Head::Untyped;
@@ -64,7 +64,7 @@ fn without_blank(s: &[u8]) -> &[u8]
     if s.len() < 1 {
         return s;
     }
-    if s[0] == 32 {
+    if s[0] == b' ' {
         return &s[1..];
     }
     s
@@ -72,7 +72,7 @@ fn without_blank(s: &[u8]) -> &[u8]
 
 // What an ipbcp line says; t is its value.
 pub(crate) fn read_value(t: &[u8]) -> Head
-    ensures { λ r. ⌜ r ≡ headOf (withoutBlank (drop 6 (now (t .entry)))) ⌝ }
+    ensures { λ r. ⌜ r ≡ headFrom (withoutBlank (drop 6 (now (t .entry)))) ⌝ }
 {
     head_of(without_blank(after(t, 6)))
 }

@@ -9,8 +9,8 @@ use Rattle.sdp.specs.Written.{lineText, linesText}
 use Rattle.address.specs.declared.Address.{Address}
 use Rattle.address.specs.declared.Address.the-variants.{V4, V6}
 use Rattle.address.specs.Canonical.{addressText}
-use Rattle.ipbcp.specs.declared.Kind.{Kind}
-use Rattle.ipbcp.specs.Types.{wordOf}
+use Rattle.ipbcp.specs.declared.MessageType.{MessageType}
+use Rattle.ipbcp.specs.Types.{typeWord}
 use Rattle.ipbcp.specs.Writing.{familyWord, hostText, versionText, originText, sessionText, connectionText, timeText, ipbcpText}
 use Rattle.ipbcp_write.specs.Parts.{hostStart}
 
@@ -63,17 +63,17 @@ module _ (own : Address) (l f g h : List ℕ) (at a b r : ℕ) where
       rw (lines-append (versionText ∷ originText own ∷ []) (sessionText ∷ connectionText own ∷ [])) (append-then l f g _ _ at a r v u)
 
 -- ---- the type
-module _ (k : Kind) (l f : List ℕ) (at r : ℕ) where
+module _ (k : MessageType) (l f : List ℕ) (at r : ℕ) where
   -- t is the word of w, which k is
-  pub word-of : (w : Kind) (t : List ℕ) → k ≡ w → Appends l at t r f → t ≡ wordOf w → Appends l at (wordOf k) r f
+  pub word-of : (w : MessageType) (t : List ℕ) → k ≡ w → Appends l at t r f → t ≡ typeWord w → Appends l at (typeWord k) r f
   word-of w t e p q = rw (e, ← q) p
 
-  pub ipbcp-then : (g h : List ℕ) (a b : ℕ) → Appends h b (13 ∷ 10 ∷ []) r f → Appends g a (wordOf k) b h
+  pub ipbcp-then : (g h : List ℕ) (a b : ℕ) → Appends h b (13 ∷ 10 ∷ []) r f → Appends g a (typeWord k) b h
       → Appends l at (116 ∷ 61 ∷ 48 ∷ 32 ∷ 48 ∷ 13 ∷ 10 ∷ 97 ∷ 61 ∷ 105 ∷ 112 ∷ 98 ∷ 99 ∷ 112 ∷ 58 ∷ 49 ∷ 32 ∷ []) a g
       → Appends l at (linesText (timeText ∷ ipbcpText k ∷ [])) r f
   unfolding linesText lineText ipbcpText
   ipbcp-then g h a b v u t =
       simp append-nil
       (append-then l g f (116 ∷ 61 ∷ 48 ∷ 32 ∷ 48 ∷ 13 ∷ 10 ∷ 97 ∷ 61 ∷ 105 ∷ 112 ∷ 98 ∷ 99 ∷ 112 ∷ 58 ∷ 49 ∷ 32 ∷ []) _ at a r
-      (append-then g h f (wordOf k) (13 ∷ 10 ∷ []) a b r v u)
+      (append-then g h f (typeWord k) (13 ∷ 10 ∷ []) a b r v u)
       t)

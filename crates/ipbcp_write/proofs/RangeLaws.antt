@@ -21,7 +21,7 @@ use Rattle.media.specs.Meaning.{spansOf, textsBy, streamBy}
 use Rattle.description.proofs.LineLaws.{found-has}
 use Rattle.ipbcp.specs.declared.Body.{Body}
 use Rattle.ipbcp.specs.Writing.{isToken, allTextsPlain, rightMedia, rightAttributes}
-use Rattle.ipbcp_write.specs.Parts.{rightBody}
+use Rattle.ipbcp_write.specs.Parts.{writableBody}
 
 -- ---- tokens
 module _ (t : List ℕ) where
@@ -157,5 +157,5 @@ module _ (m : List ℕ) (s : Places) (a : List ℕ) (at : a ≡ textOf m (s .rtp
 pub ruleset attributes = (rtpmap-none, fmtp-none, attributes-are)
 
 -- ---- a body that the code has matched
-pub right-of : (m : List ℕ) (b c : Body) (t : Bool) → b ≡ c → t ≡ rightBody m c → t ≡ rightBody m b
+pub right-of : (m : List ℕ) (b c : Body) (t : Bool) → b ≡ c → t ≡ writableBody m c → t ≡ writableBody m b
 right-of m b c t e p = rw e p

@@ -25,35 +25,35 @@ use Rattle.media.specs.Stream.{Stream}
 use Rattle.media.specs.Meaning.{streamBy, streamInside, streamIn}
 use Rattle.ipbcp.specs.declared.Body.{Body}
 use Rattle.ipbcp.specs.declared.Body.the-variants as body
-use Rattle.ipbcp.specs.declared.Kind.{Kind}
-use Rattle.ipbcp.specs.Writing.{Content, request, accepted, confused, rejected, versionText, originText, sessionText, connectionText, timeText, ipbcpText, kindIn, mediaLines, messageLines, messageText, rightMedia, rightAttributes, rightContent, octetsOf, octetsIn, mostWritten}
+use Rattle.ipbcp.specs.declared.MessageType.{MessageType}
+use Rattle.ipbcp.specs.Writing.{Content, requestContent, acceptedContent, confusedContent, rejectedContent, versionText, originText, sessionText, connectionText, timeText, ipbcpText, contentType, mediaLines, messageLines, messageText, rightMedia, rightAttributes, rightContent, messageOctets, messageOctetsIn, mostWritten}
 use Rattle.ipbcp.specs.Meaning.{contentIn}
-use Rattle.ipbcp_write.specs.Parts.{contentBy, kindOf, rightStream, rightBody}
+use Rattle.ipbcp_write.specs.Parts.{contentBy, bodyType, writableStream, writableBody}
 use Rattle.ipbcp_write.proofs.LineLaws.{lines-append}
 
 -- ---- the parts of a message
-pub kind-of : (b c : Body) (k : Kind) → b ≡ c → k ≡ kindOf c → k ≡ kindOf b
+pub kind-of : (b c : Body) (k : MessageType) → b ≡ c → k ≡ bodyType c → k ≡ bodyType b
 kind-of b c k e p = rw e p
 
 pub body-of : (m : List ℕ) (b c : Body) (l : List ℕ) (at r : ℕ) (f : List ℕ) → b ≡ c → Appends l at (linesText (mediaLines (contentBy m c))) r f
     → Appends l at (linesText (mediaLines (contentBy m b))) r f
 body-of m b c l at r f e p = rw e p
 
-kind-is : (m : List ℕ) (b : Body) → kindOf b ≡ kindIn (contentBy m b)
-unfolding kindOf kindIn contentBy
+kind-is : (m : List ℕ) (b : Body) → bodyType b ≡ contentType (contentBy m b)
+unfolding bodyType contentType contentBy
 kind-is m (body.Request s) = refl
 kind-is m (body.Accepted s) = refl
 kind-is m body.Confused = refl
 kind-is m body.Rejected = refl
 
 -- the opening lines, those of time and type, and the others, one behind the other
-pub message-then : (own : Address) (m : List ℕ) (b : Body) (k : Kind) → k ≡ kindOf b → (l f g h : List ℕ) (at x y r : ℕ)
+pub message-then : (own : Address) (m : List ℕ) (b : Body) (k : MessageType) → k ≡ bodyType b → (l f g h : List ℕ) (at x y r : ℕ)
     → Appends g y (linesText (mediaLines (contentBy m b))) r h → Appends f x (linesText (timeText ∷ ipbcpText k ∷ [])) y g
     → Appends l at (linesText (versionText ∷ originText own ∷ sessionText ∷ connectionText own ∷ [])) x f
     → Appends l at (messageText own (contentBy m b)) r h
 unfolding messageText messageLines
 message-then own m b k e l f g h at x y r p q o =
-    let i : k ≡ kindIn (contentBy m b) = e ∙ kind-is m b in
+    let i : k ≡ contentType (contentBy m b) = e ∙ kind-is m b in
     let first = versionText ∷ originText own ∷ sessionText ∷ connectionText own ∷ [] in
     let then = timeText ∷ ipbcpText k ∷ [] in
     let ms = mediaLines (contentBy m b) in
@@ -62,12 +62,12 @@ message-then own m b k e l f g h at x y r p q o =
 
 -- ---- the ranges
 module _ (own : Address) (m : List ℕ) where
-  right-of : (c : Content) → isUnicast own ≡ true → rightContent c ≡ true → octetsOf own c ≡ bounded mostWritten (messageText own c)
-  unfolding octetsOf bounded
+  right-of : (c : Content) → isUnicast own ≡ true → rightContent c ≡ true → messageOctets own c ≡ bounded mostWritten (messageText own c)
+  unfolding messageOctets bounded
   right-of c u h = rw (u, h)
 
-  wrong-of : (c : Content) → (isUnicast own && rightContent c) ≡ false → octetsOf own c ≡ none
-  unfolding octetsOf
+  wrong-of : (c : Content) → (isUnicast own && rightContent c) ≡ false → messageOctets own c ≡ none
+  unfolding messageOctets
   wrong-of c h = go (isUnicast own) (rightContent c) h
     where
       go : (u v : Bool) → (u && v) ≡ false → cond (u && (v && leb (length (messageText own c)) mostWritten)) (some (messageText own c)) none ≡ none
@@ -75,52 +75,52 @@ module _ (own : Address) (m : List ℕ) where
       go true false e = refl
       go false v e = refl
 
-  stream-right : (s : Places) (f : Stream → Content) → rightContent (f (streamBy m s)) ≡ (rightMedia (streamBy m s) && rightAttributes (streamBy m s)) → isUnicast own ≡ true → rightStream m s ≡ true
-      → octetsIn own (Option·map f (streamIn m s)) ≡ bounded mostWritten (messageText own (f (streamBy m s)))
-  unfolding rightStream streamIn octetsIn
+  stream-right : (s : Places) (f : Stream → Content) → rightContent (f (streamBy m s)) ≡ (rightMedia (streamBy m s) && rightAttributes (streamBy m s)) → isUnicast own ≡ true → writableStream m s ≡ true
+      → messageOctetsIn own (Option·map f (streamIn m s)) ≡ bounded mostWritten (messageText own (f (streamBy m s)))
+  unfolding writableStream streamIn messageOctetsIn
   stream-right s f is u h =
       let a = and-eq-true-iff (streamInside m s) (rightMedia (streamBy m s) && rightAttributes (streamBy m s)) .0 h in
       rw (a .0) (right-of (f (streamBy m s)) u (is ∙ a .1))
 
-  stream-wrong : (s : Places) (f : Stream → Content) → rightContent (f (streamBy m s)) ≡ (rightMedia (streamBy m s) && rightAttributes (streamBy m s)) → (isUnicast own && rightStream m s) ≡ false
-      → octetsIn own (Option·map f (streamIn m s)) ≡ none
-  unfolding rightStream streamIn octetsIn
+  stream-wrong : (s : Places) (f : Stream → Content) → rightContent (f (streamBy m s)) ≡ (rightMedia (streamBy m s) && rightAttributes (streamBy m s)) → (isUnicast own && writableStream m s) ≡ false
+      → messageOctetsIn own (Option·map f (streamIn m s)) ≡ none
+  unfolding writableStream streamIn messageOctetsIn
   stream-wrong s f is h =
       by-bool (streamInside m s) _
       (λ e. rw e (wrong-of (f (streamBy m s)) (let z : (isUnicast own && (rightMedia (streamBy m s) && rightAttributes (streamBy m s))) ≡ false = rw e at h in rw is z)))
       (λ e. rw e)
 
-  body-right : (b : Body) → isUnicast own ≡ true → rightBody m b ≡ true → octetsIn own (contentIn m b) ≡ bounded mostWritten (messageText own (contentBy m b))
-  unfolding rightBody contentIn contentBy rightContent octetsIn
-  body-right (body.Request s) u h = stream-right s request refl u h
-  body-right (body.Accepted s) u h = stream-right s accepted refl u h
-  body-right body.Confused u h = right-of confused u refl
-  body-right body.Rejected u h = right-of rejected u refl
+  body-right : (b : Body) → isUnicast own ≡ true → writableBody m b ≡ true → messageOctetsIn own (contentIn m b) ≡ bounded mostWritten (messageText own (contentBy m b))
+  unfolding writableBody contentIn contentBy rightContent messageOctetsIn
+  body-right (body.Request s) u h = stream-right s requestContent refl u h
+  body-right (body.Accepted s) u h = stream-right s acceptedContent refl u h
+  body-right body.Confused u h = right-of confusedContent u refl
+  body-right body.Rejected u h = right-of rejectedContent u refl
 
-  body-wrong : (b : Body) → (isUnicast own && rightBody m b) ≡ false → octetsIn own (contentIn m b) ≡ none
-  unfolding rightBody contentIn rightContent octetsIn
-  body-wrong (body.Request s) h = stream-wrong s request refl h
-  body-wrong (body.Accepted s) h = stream-wrong s accepted refl h
-  body-wrong body.Confused h = wrong-of confused h
-  body-wrong body.Rejected h = wrong-of rejected h
+  body-wrong : (b : Body) → (isUnicast own && writableBody m b) ≡ false → messageOctetsIn own (contentIn m b) ≡ none
+  unfolding writableBody contentIn rightContent messageOctetsIn
+  body-wrong (body.Request s) h = stream-wrong s requestContent refl h
+  body-wrong (body.Accepted s) h = stream-wrong s acceptedContent refl h
+  body-wrong body.Confused h = wrong-of confusedContent h
+  body-wrong body.Rejected h = wrong-of rejectedContent h
 
   -- t and v are what the code found of the address and of the body
   module _ (b : Body) (l : List ℕ) (t : Bool) (is : t ≡ isUnicast own) where
-    pub writes-no-address : t ≡ false → Puts (octetsIn own (contentIn m b)) l (Refused 5) l
+    pub writes-no-address : t ≡ false → Puts (messageOctetsIn own (contentIn m b)) l (Refused 5) l
     writes-no-address e =
-        let x : (isUnicast own && rightBody m b) ≡ false = let y : isUnicast own ≡ false = sym is ∙ e in rw y in
+        let x : (isUnicast own && writableBody m b) ≡ false = let y : isUnicast own ≡ false = sym is ∙ e in rw y in
         rw (body-wrong b x) (puts-none l)
 
-    module _ (yes : t ≡ true) (v : Bool) (be : v ≡ rightBody m b) where
+    module _ (yes : t ≡ true) (v : Bool) (be : v ≡ writableBody m b) where
       unicast : isUnicast own ≡ true
       unicast = sym is ∙ yes
 
-      pub writes-none : v ≡ false → Puts (octetsIn own (contentIn m b)) l (Refused 5) l
+      pub writes-none : v ≡ false → Puts (messageOctetsIn own (contentIn m b)) l (Refused 5) l
       writes-none e =
-          let x : (isUnicast own && rightBody m b) ≡ false = let y : rightBody m b ≡ false = sym be ∙ e in rw (unicast, y) in
+          let x : (isUnicast own && writableBody m b) ≡ false = let y : writableBody m b ≡ false = sym be ∙ e in rw (unicast, y) in
           rw (body-wrong b x) (puts-none l)
 
-      pub writes-right : v ≡ true → (r : Put) (f : List ℕ) → Puts (bounded mostWritten (messageText own (contentBy m b))) l r f → Puts (octetsIn own (contentIn m b)) l r f
+      pub writes-right : v ≡ true → (r : Put) (f : List ℕ) → Puts (bounded mostWritten (messageText own (contentBy m b))) l r f → Puts (messageOctetsIn own (contentIn m b)) l r f
       writes-right e r f p = rw (body-right b unicast (sym be ∙ e)) p
 
 pub ruleset writing = (writes-no-address, writes-none, writes-right)

@@ -2,39 +2,40 @@
 use Prim.Native.Nat.{ℕ}
 use mathlib.Core.List.{List, [], _∷_, _++_}
 use mathlib.Core.Bool.{Bool, true, _&&_}
+use Rattle.octets.specs.Text.{ascii}
 use Rattle.address.specs.declared.Address.{Address}
 use Rattle.media.specs.declared.Stream.{Stream as Places}
 use Rattle.media.specs.Meaning.{streamBy, streamInside}
 use Rattle.ipbcp.specs.declared.Body.{Body}
 use Rattle.ipbcp.specs.declared.Body.the-variants as body
-use Rattle.ipbcp.specs.declared.Kind.{Kind}
-use Rattle.ipbcp.specs.declared.Kind.the-variants as kind
-use Rattle.ipbcp.specs.Writing.{Content, request, accepted, confused, rejected, familyWord, rightMedia, rightAttributes}
+use Rattle.ipbcp.specs.declared.MessageType.{MessageType}
+use Rattle.ipbcp.specs.declared.MessageType.the-variants as kind
+use Rattle.ipbcp.specs.Writing.{Content, requestContent, acceptedContent, confusedContent, rejectedContent, familyWord, rightMedia, rightAttributes}
 
 -- the content by the octets of m that are in the spans, wherever these end
 unfoldable pub contentBy : List ℕ → Body → Content
-contentBy m (body.Request s) = request (streamBy m s)
-contentBy m (body.Accepted s) = accepted (streamBy m s)
-contentBy m body.Confused = confused
-contentBy m body.Rejected = rejected
+contentBy m (body.Request s) = requestContent (streamBy m s)
+contentBy m (body.Accepted s) = acceptedContent (streamBy m s)
+contentBy m body.Confused = confusedContent
+contentBy m body.Rejected = rejectedContent
 
 -- its type
-unfoldable pub kindOf : Body → Kind
-kindOf (body.Request s) = kind.Request
-kindOf (body.Accepted s) = kind.Accepted
-kindOf body.Confused = kind.Confused
-kindOf body.Rejected = kind.Rejected
+unfoldable pub bodyType : Body → MessageType
+bodyType (body.Request s) = kind.Request
+bodyType (body.Accepted s) = kind.Accepted
+bodyType body.Confused = kind.Confused
+bodyType body.Rejected = kind.Rejected
 
 -- the spans lie inside m, and what is in them is in range
-unfoldable pub rightStream : List ℕ → Places → Bool
-rightStream m s = streamInside m s && (rightMedia (streamBy m s) && rightAttributes (streamBy m s))
+unfoldable pub writableStream : List ℕ → Places → Bool
+writableStream m s = streamInside m s && (rightMedia (streamBy m s) && rightAttributes (streamBy m s))
 
-unfoldable pub rightBody : List ℕ → Body → Bool
-rightBody m (body.Request s) = rightStream m s
-rightBody m (body.Accepted s) = rightStream m s
-rightBody m body.Confused = true
-rightBody m body.Rejected = true
+unfoldable pub writableBody : List ℕ → Body → Bool
+writableBody m (body.Request s) = writableStream m s
+writableBody m (body.Accepted s) = writableStream m s
+writableBody m body.Confused = true
+writableBody m body.Rejected = true
 
--- "IN", the family, and a blank behind each
+-- IN and the family, with a blank after each
 abbrev pub hostStart : Address → List ℕ
-hostStart a = 73 ∷ 78 ∷ 32 ∷ (familyWord a ++ (32 ∷ []))
+hostStart a = ascii "IN " ++ (familyWord a ++ ascii " ")

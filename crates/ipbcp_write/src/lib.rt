@@ -7,12 +7,12 @@ ghost use mathlib.Core.Path.{_≡_};
 ghost use Rattle.octets.specs.Append.{Appends};
 ghost use Rattle.octets.specs.Puts.{bounded, Puts};
 ghost use Rattle.sdp.specs.Written.{linesText};
-ghost use Rattle.ipbcp.specs.Writing.{mediaLines, messageText, octetsIn, mostWritten};
+ghost use Rattle.ipbcp.specs.Writing.{mediaLines, messageText, messageOctetsIn, mostWritten};
 ghost use Rattle.ipbcp.specs.Meaning.{contentIn};
-ghost use Rattle.ipbcp_write.specs.Parts.{contentBy, kindOf};
+ghost use Rattle.ipbcp_write.specs.Parts.{contentBy, bodyType};
 use address::Address;
 use ipbcp::Body;
-use ipbcp::Kind;
+use ipbcp::MessageType;
 use octets::Put;
 use octets::append::put_front;
 
@@ -23,14 +23,14 @@ pub const MOST_WRITTEN: usize = 447;
 const SCRATCH: usize = MOST_WRITTEN + 1;
 
 // The type of a message.
-fn kind_of(body: Body) -> Kind
-    ensures { λ r. ⌜ r ≡ kindOf body ⌝ }
+fn kind_of(body: Body) -> MessageType
+    ensures { λ r. ⌜ r ≡ bodyType body ⌝ }
 {
     match body {
-        Body::Request(_) => Kind::Request,
-        Body::Accepted(_) => Kind::Accepted,
-        Body::Confused => Kind::Confused,
-        Body::Rejected => Kind::Rejected,
+        Body::Request(_) => MessageType::Request,
+        Body::Accepted(_) => MessageType::Accepted,
+        Body::Confused => MessageType::Confused,
+        Body::Rejected => MessageType::Rejected,
     }
 }
 
@@ -69,7 +69,7 @@ fn write_right(body: Body, own: Address, source: &[u8], out: &mut [u8]) -> Put
 
 // Writes the message with the own address in `o=` and `c=`. The texts of a stream are places in source.
 pub fn write_message(body: Body, own: Address, source: &[u8], out: &mut [u8]) -> Put
-    ensures { λ r. ⌜ Puts (octetsIn own (contentIn (now (source .entry)) body)) (now (out .entry)) r (now (out .exit)) ⌝ }
+    ensures { λ r. ⌜ Puts (messageOctetsIn own (contentIn (now (source .entry)) body)) (now (out .entry)) r (now (out .exit)) ⌝ }
 {
     if address::is_unicast(own) {
         if ranges::right_body(body, source) {

@@ -1,18 +1,19 @@
 // The lines that every message has.
 ghost use mathlib.Core.List.{[], _∷_};
+ghost use Rattle.octets.specs.Text.{lf, cr};
 ghost use Rattle.octets.specs.Append.{Appends};
 ghost use Rattle.sdp.specs.Written.{lineText, linesText};
-ghost use Rattle.ipbcp.specs.Types.{wordOf};
+ghost use Rattle.ipbcp.specs.Types.{typeWord};
 ghost use Rattle.ipbcp.specs.Writing.{hostText, versionText, originText, sessionText, connectionText, timeText, ipbcpText};
 ghost use Rattle.ipbcp_write.specs.Parts.{hostStart};
 use address::Address;
 use address::write::push_address;
-use ipbcp::Kind;
+use ipbcp::MessageType;
 use octets::append::push;
 
 // Appends the end of a line.
 pub(crate) fn push_end(out: &mut [u8], at: usize) -> usize
-    ensures { λ r. ⌜ Appends (now (out .entry)) at (13 ∷ 10 ∷ []) r (now (out .exit)) ⌝ }
+    ensures { λ r. ⌜ Appends (now (out .entry)) at (cr ∷ lf ∷ []) r (now (out .exit)) ⌝ }
 {
     push(b"\r\n", out, at)
 }
@@ -61,19 +62,19 @@ pub(crate) fn push_opening(own: Address, out: &mut [u8], at: usize) -> usize
 }
 
 // Appends the word of a type.
-fn push_word(kind: Kind, out: &mut [u8], at: usize) -> usize
-    ensures { λ r. ⌜ Appends (now (out .entry)) at (wordOf kind) r (now (out .exit)) ⌝ }
+fn push_word(kind: MessageType, out: &mut [u8], at: usize) -> usize
+    ensures { λ r. ⌜ Appends (now (out .entry)) at (typeWord kind) r (now (out .exit)) ⌝ }
 {
     match kind {
-        Kind::Request => push(b"Request", out, at),
-        Kind::Accepted => push(b"Accepted", out, at),
-        Kind::Confused => push(b"Confused", out, at),
-        Kind::Rejected => push(b"Rejected", out, at),
+        MessageType::Request => push(b"Request", out, at),
+        MessageType::Accepted => push(b"Accepted", out, at),
+        MessageType::Confused => push(b"Confused", out, at),
+        MessageType::Rejected => push(b"Rejected", out, at),
     }
 }
 
 // Appends the lines t and ipbcp.
-pub(crate) fn push_ipbcp(kind: Kind, out: &mut [u8], at: usize) -> usize
+pub(crate) fn push_ipbcp(kind: MessageType, out: &mut [u8], at: usize) -> usize
     ensures { λ r. ⌜ Appends (now (out .entry)) at (linesText (timeText ∷ ipbcpText kind ∷ [])) r (now (out .exit)) ⌝ }
 {
     let a = push(b"t=0 0\r\na=ipbcp:1 ", out, at);

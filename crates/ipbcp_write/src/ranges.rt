@@ -2,7 +2,7 @@
 ghost use mathlib.Core.Path.{_≡_};
 ghost use Rattle.media.specs.Meaning.{textsBy, streamBy};
 ghost use Rattle.ipbcp.specs.Writing.{isToken, allTextsPlain, rightMedia, rightAttributes};
-ghost use Rattle.ipbcp_write.specs.Parts.{rightStream, rightBody};
+ghost use Rattle.ipbcp_write.specs.Parts.{writableStream, writableBody};
 use ipbcp::Body;
 use media::Stream;
 use media::Texts;
@@ -19,7 +19,7 @@ fn is_token(t: &[u8]) -> bool
     if t.len() < 1 {
         return false;
     }
-    let e = find_from(t, 32, 0);
+    let e = find_from(t, b' ', 0);
     if e < t.len() {
         return false;
     }
@@ -86,7 +86,7 @@ fn right_attributes(s: Stream, source: &[u8]) -> bool
 
 // The spans of the stream lie inside source, and its fields are in range.
 fn right_stream(s: Stream, source: &[u8]) -> bool
-    ensures { λ r. ⌜ r ≡ rightStream (now (source .entry)) s ⌝ }
+    ensures { λ r. ⌜ r ≡ writableStream (now (source .entry)) s ⌝ }
 {
     if stream_inside(s, source) {
         if right_media(s, source) {
@@ -98,7 +98,7 @@ fn right_stream(s: Stream, source: &[u8]) -> bool
 
 // The fields of the message are in range.
 pub(crate) fn right_body(body: Body, source: &[u8]) -> bool
-    ensures { λ r. ⌜ r ≡ rightBody (now (source .entry)) body ⌝ }
+    ensures { λ r. ⌜ r ≡ writableBody (now (source .entry)) body ⌝ }
 {
     match body {
         Body::Request(s) => right_stream(s, source),

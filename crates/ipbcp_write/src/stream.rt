@@ -1,5 +1,6 @@
 // The media line and its attributes.
 ghost use mathlib.Core.List.{[], _∷_, _++_, map};
+ghost use Rattle.octets.specs.Text.{ascii, blank};
 ghost use Rattle.octets.specs.Append.{Appends, numberText};
 ghost use Rattle.octets.specs.Spans.{textOf};
 ghost use Rattle.sdp.specs.Written.{lineText, linesText};
@@ -17,10 +18,10 @@ use octets::spans::text;
 
 // Appends a text and a blank.
 fn push_token(t: &[u8], out: &mut [u8], at: usize) -> usize
-    ensures { λ r. ⌜ Appends (now (out .entry)) at (now (t .entry) ++ (32 ∷ [])) r (now (out .exit)) ⌝ }
+    ensures { λ r. ⌜ Appends (now (out .entry)) at (now (t .entry) ++ (blank ∷ [])) r (now (out .exit)) ⌝ }
 {
     let a = push(t, out, at);
-    push_octet(32, out, a)
+    push_octet(b' ', out, a)
 }
 
 // Appends what is left of a line, and its end.
@@ -33,7 +34,7 @@ fn push_rest(t: &[u8], out: &mut [u8], at: usize) -> usize
 
 // Appends the media line as far as its port and the blank behind it.
 fn push_port(s: Stream, source: &[u8], out: &mut [u8], at: usize) -> usize
-    ensures { λ r. ⌜ Appends (now (out .entry)) at (109 ∷ 61 ∷ (textOf (now (source .entry)) (s .media) ++ (32 ∷ (numberText (s .port) ++ (32 ∷ []))))) r (now (out .exit)) ⌝ }
+    ensures { λ r. ⌜ Appends (now (out .entry)) at (ascii "m=" ++ (textOf (now (source .entry)) (s .media) ++ (blank ∷ (numberText (s .port) ++ (blank ∷ []))))) r (now (out .exit)) ⌝ }
 {
     let media = s.media;
     let a = push(b"m=", out, at);
@@ -43,7 +44,7 @@ fn push_port(s: Stream, source: &[u8], out: &mut [u8], at: usize) -> usize
 
 // Appends transport and payload, and ends the line.
 fn push_payload(s: Stream, source: &[u8], out: &mut [u8], at: usize) -> usize
-    ensures { λ r. ⌜ Appends (now (out .entry)) at (lineText (textOf (now (source .entry)) (s .transport) ++ (32 ∷ numberText (s .payload)))) r (now (out .exit)) ⌝ }
+    ensures { λ r. ⌜ Appends (now (out .entry)) at (lineText (textOf (now (source .entry)) (s .transport) ++ (blank ∷ numberText (s .payload)))) r (now (out .exit)) ⌝ }
 {
     let transport = s.transport;
     let a = push_token(text(source, transport), out, at);
@@ -53,7 +54,7 @@ fn push_payload(s: Stream, source: &[u8], out: &mut [u8], at: usize) -> usize
 
 // Appends the media line.
 fn push_media(s: Stream, source: &[u8], out: &mut [u8], at: usize) -> usize
-    ensures { λ r. ⌜ Appends (now (out .entry)) at (lineText (109 ∷ 61 ∷ mediaText (streamBy (now (source .entry)) s))) r (now (out .exit)) ⌝ }
+    ensures { λ r. ⌜ Appends (now (out .entry)) at (lineText (ascii "m=" ++ mediaText (streamBy (now (source .entry)) s))) r (now (out .exit)) ⌝ }
 {
     let a = push_port(s, source, out, at);
     push_payload(s, source, out, a)

@@ -13,12 +13,12 @@ use Rattle.media.specs.declared.Stream.{Stream as Places}
 use Rattle.media.specs.Stream.{Stream}
 use Rattle.media.specs.Meaning.{streamBy}
 use Rattle.configuration.specs.declared.Config.{Config}
-use Rattle.configuration.specs.Configuration.{noneOrInRange}
+use Rattle.configuration.specs.Configuration.{ptimeNoneOrInRange}
 use Rattle.configuration.specs.Meaning.{configurationBy}
 use Rattle.bearer.specs.declared.Bearer.{Bearer as Held}
 use Rattle.bearer.specs.Bearer.{Bearer}
 use Rattle.bearer.specs.Judging.{sameFamily, sameAddress, sameOffer, sameHost, rightAccepted}
-use Rattle.bearer.specs.Meaning.{bearerBy, namedBy, heldIf}
+use Rattle.bearer.specs.Meaning.{bearerBy, namedBy, bearerIf}
 
 -- ---- the streams o, whose texts are in l, and s, whose texts are in m; the code has the media as a and b, the transports as
 -- c and d, the rtpmap texts as e and f
@@ -55,11 +55,11 @@ pub ruleset offers = (offer-media, offer-transport, offer-payload, offer-rtpmap)
 
 -- ---- what is in force, if t says that a bearer is; u says whether its address is a
 module _ (t : Bool) (b : Held) (m : List ℕ) (a : Address) (s : Places) where
-  pub host-none : t ≡ false → true ≡ sameHost (heldIf t (bearerBy b)) (namedBy m a s)
+  pub host-none : t ≡ false → true ≡ sameHost (bearerIf t (bearerBy b)) (namedBy m a s)
   unfolding sameHost
   host-none h = rw h
 
-  pub host-address : t ≡ true → (u : Bool) → u ≡ sameAddress (b .address) a → u ≡ sameHost (heldIf t (bearerBy b)) (namedBy m a s)
+  pub host-address : t ≡ true → (u : Bool) → u ≡ sameAddress (b .address) a → u ≡ sameHost (bearerIf t (bearerBy b)) (namedBy m a s)
   unfolding sameHost bearerBy namedBy
   host-address h u p = rw h p
 
@@ -79,16 +79,16 @@ module _ (c : Config) (f : Option Bearer) (q : Stream) (m : List ℕ) (a : Addre
     unfolding rightAccepted configurationBy namedBy
     accepted-offer e = let x : sameOffer q (streamBy m s) ≡ false = sym be ∙ e in rw (family-is, x)
 
-    module _ (right : u ≡ true) (v : Bool) (range : v ≡ noneOrInRange (configurationBy c) (s .ptime)) where
+    module _ (right : u ≡ true) (v : Bool) (range : v ≡ ptimeNoneOrInRange (configurationBy c) (s .ptime)) where
       offer-is : sameOffer q (streamBy m s) ≡ true
       offer-is = sym be ∙ right
 
       pub accepted-time : v ≡ false → false ≡ rightAccepted (configurationBy c) f q (namedBy m a s)
       unfolding rightAccepted configurationBy namedBy streamBy
-      accepted-time e = let x : noneOrInRange (configurationBy c) (s .ptime) ≡ false = sym range ∙ e in rw (family-is, offer-is, x)
+      accepted-time e = let x : ptimeNoneOrInRange (configurationBy c) (s .ptime) ≡ false = sym range ∙ e in rw (family-is, offer-is, x)
 
       pub accepted-host : v ≡ true → (w : Bool) → w ≡ sameHost f (namedBy m a s) → w ≡ rightAccepted (configurationBy c) f q (namedBy m a s)
       unfolding rightAccepted configurationBy namedBy streamBy
-      accepted-host e w p = let x : noneOrInRange (configurationBy c) (s .ptime) ≡ true = sym range ∙ e in rw (family-is, offer-is, x) p
+      accepted-host e w p = let x : ptimeNoneOrInRange (configurationBy c) (s .ptime) ≡ true = sym range ∙ e in rw (family-is, offer-is, x) p
 
 pub ruleset accepteds = (accepted-family, accepted-offer, accepted-time, accepted-host)

@@ -22,13 +22,13 @@ use Rattle.media.specs.Meaning.{spansOf, textsBy, streamBy, allIn, streamInside
 use Rattle.configuration.specs.declared.Format.{Format}
 use Rattle.configuration.specs.declared.Format.the-variants.{Payload, Named}
 use Rattle.configuration.specs.declared.Codec.{Codec as Place}
-use Rattle.configuration.specs.declared.Entry.{Entry}
+use Rattle.configuration.specs.declared.FoundCodec.{FoundCodec}
 use Rattle.configuration.specs.declared.Config.{Config}
-use Rattle.configuration.specs.Configuration.{entryIn, suits, nameOf, noneOrInRange, mostName}
-use Rattle.configuration.specs.Meaning.{formatBy, codecBy, codecsBy, configurationBy, entryBy}
+use Rattle.configuration.specs.Configuration.{entryIn, suits, nameOf, ptimeNoneOrInRange, mostName}
+use Rattle.configuration.specs.Meaning.{formatBy, codecBy, codecsBy, configurationBy, foundBy}
 use Rattle.bearer.specs.declared.Request.{Request}
 use Rattle.bearer.specs.Judging.{audio, rtpAvp, offered, commanded}
-use Rattle.bearer.specs.Meaning.{requestBy}
+use Rattle.bearer.specs.Meaning.{mostOffered, requestBy}
 use Rattle.judge.specs.Commands.{Commands, Offers}
 
 -- ---- the Request for an entry
@@ -40,10 +40,6 @@ name-short : (f : Format) (name : List ℕ) → length (nameOf (formatBy f name)
 unfolding formatBy nameOf
 name-short (Payload n) name = omega arith
 name-short (Named n) name = simp length-take (omega arith)
-
--- a Request's text has room for the two words and a name
-abbrev mostOffered : ℕ
-mostOffered = 12 + mostName
 
 -- the words, a name t that is not too long, and what was there; a and r are where the name begins and ends
 module _ (z g f t : List ℕ) (a r : ℕ) (room : length z ≡ mostOffered) (short : length t ≤ mostName) (p : Appends z 0 (audio ++ rtpAvp) a g) (q : Appends g a t r f) where
@@ -107,8 +103,8 @@ module _ (k : Place) (p : ℕ) (s : suits (codecBy k) p ≡ true) where
 pub ruleset payloads = (payload-fixed, payload-named)
 
 -- ---- a packet time that is none or in range
-pub time-fits : (c : Config) (t : ℕ) → noneOrInRange (configurationBy c) t ≡ true → Fits w8 (c .most) → t % 256 ≡ t
-unfolding noneOrInRange configurationBy
+pub time-fits : (c : Config) (t : ℕ) → ptimeNoneOrInRange (configurationBy c) t ≡ true → Fits w8 (c .most) → t % 256 ≡ t
+unfolding ptimeNoneOrInRange configurationBy
 time-fits c t h most =
     by-bool (eqb t 0) _
     (λ e. omega (arith, eqb-true t 0 e))
@@ -116,21 +112,21 @@ time-fits c t h most =
     omega (arith, leb-true t (c .most) (and-eq-true-iff (leb (c .least) t) (leb t (c .most)) .0 r .1)))
 
 -- ---- the command, whose entry is e; u says whether its fields suit the configuration
-module _ (c : Config) (n p t : ℕ) (e : Entry) (is : entryBy e ≡ entryIn (codecsBy c) n)
-    (u : Bool) (says : u ≡ (e .known && (suits (codecBy (e .codec)) p && noneOrInRange (configurationBy c) t))) where
+module _ (c : Config) (n p t : ℕ) (e : FoundCodec) (is : foundBy e ≡ entryIn (codecsBy c) n)
+    (u : Bool) (says : u ≡ (e .known && (suits (codecBy (e .codec)) p && ptimeNoneOrInRange (configurationBy c) t))) where
   entry-is : (v : Bool) → e .known ≡ v → entryIn (codecsBy c) n ≡ cond v (some (codecBy (e .codec))) none
   entry-is v a = rw a at (sym is)
 
-  all-suit : u ≡ true → (e .known ≡ true) × (suits (codecBy (e .codec)) p ≡ true) × (noneOrInRange (configurationBy c) t ≡ true)
+  all-suit : u ≡ true → (e .known ≡ true) × (suits (codecBy (e .codec)) p ≡ true) × (ptimeNoneOrInRange (configurationBy c) t ≡ true)
   all-suit h =
-      let (a, b) = and-eq-true-iff (e .known) (suits (codecBy (e .codec)) p && noneOrInRange (configurationBy c) t) .0 (sym says ∙ h) in
-      let (d, f) = and-eq-true-iff (suits (codecBy (e .codec)) p) (noneOrInRange (configurationBy c) t) .0 b in
+      let (a, b) = and-eq-true-iff (e .known) (suits (codecBy (e .codec)) p && ptimeNoneOrInRange (configurationBy c) t) .0 (sym says ∙ h) in
+      let (d, f) = and-eq-true-iff (suits (codecBy (e .codec)) p) (ptimeNoneOrInRange (configurationBy c) t) .0 b in
       (a, d, f)
 
   pub command-suits : u ≡ true → suits (codecBy (e .codec)) p ≡ true
   command-suits h = all-suit h .1
 
-  pub command-in-range : u ≡ true → noneOrInRange (configurationBy c) t ≡ true
+  pub command-in-range : u ≡ true → ptimeNoneOrInRange (configurationBy c) t ≡ true
   command-in-range h = all-suit h .2
 
   pub command-yes : u ≡ true → (v w : ℕ) → v ≡ p → w ≡ t → (q : Request) → Offers (c .port) (codecBy (e .codec)) v w q
@@ -148,7 +144,7 @@ module _ (c : Config) (n p t : ℕ) (e : Entry) (is : entryBy e ≡ entryIn (cod
       record {
         is =
             by-bool (e .known) _
-            (λ a. let f : (suits (codecBy (e .codec)) p && noneOrInRange (configurationBy c) t) ≡ false = rw a at (sym says ∙ h) in rw (entry-is true a, f))
+            (λ a. let f : (suits (codecBy (e .codec)) p && ptimeNoneOrInRange (configurationBy c) t) ≡ false = rw a at (sym says ∙ h) in rw (entry-is true a, f))
             (λ a. rw (entry-is false a));
         inside = o .inside;
       }

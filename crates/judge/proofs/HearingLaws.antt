@@ -13,26 +13,26 @@ use Rattle.address.specs.declared.Address.{Address}
 use Rattle.media.specs.declared.Stream.{Stream as Places}
 use Rattle.media.specs.Stream.{Stream}
 use Rattle.media.specs.Meaning.{streamIn}
-use Rattle.ipbcp.specs.declared.Kind.{Kind}
-use Rattle.ipbcp.specs.declared.Kind.the-variants.{Request, Accepted, Confused, Rejected}
+use Rattle.ipbcp.specs.declared.MessageType.{MessageType}
+use Rattle.ipbcp.specs.declared.MessageType.the-variants.{Request, Accepted, Confused, Rejected}
 use Rattle.ipbcp.specs.declared.Head.{Head}
 use Rattle.ipbcp.specs.declared.Head.the-variants.{Typed, Untyped}
 use Rattle.ipbcp.specs.declared.Message.{Message}
 use Rattle.ipbcp.specs.declared.Message.the-variants as answer
 use Rattle.ipbcp.specs.Types.{headIn}
-use Rattle.ipbcp.specs.Reading.{Reading, refused, typed, described, finish, isDescribed, byHead, mostRead, readMessage}
+use Rattle.ipbcp.specs.Reading.{Reading, refused, typed, described, concluded, isDescribed, byHead, mostRead, readMessage}
 use Rattle.ipbcp.specs.Meaning.{readingIn}
 use Rattle.bearer.specs.declared.Heard.{Heard as Taken}
 use Rattle.bearer.specs.declared.Heard.the-variants as taken
-use Rattle.bearer.specs.Hearing.{unreadable, bearerIn, heardBy, heard}
+use Rattle.bearer.specs.Hearing.{nothingHeard, bearerIn, heardBy, heard}
 use Rattle.bearer.specs.Meaning.{heardIn}
 
 -- ---- the ways to read a message, and what is heard by each
 data Told (m : List ℕ) : Reading → Type 0 where
-  by-none : {n : ℕ} → (n ≡ 10 → ⊥) → heard m ≡ unreadable → Told m (refused n)
-  by-type : {v : ℕ} {k : Kind} → (v ≡ 1 → isDescribed k ≡ false) → heard m ≡ heardBy (Typed v k) (typed v k) → Told m (typed v k)
-  by-wrong : {k : Kind} → headIn m ≡ Typed 1 k → heard m ≡ heardBy (Typed 1 k) (refused 10) → Told m (refused 10)
-  by-lines : {k : Kind} {a : Address} {s : Stream} → heard m ≡ heardBy (Typed 1 k) (described k a s) → Told m (described k a s)
+  by-none : {n : ℕ} → (n ≡ 10 → ⊥) → heard m ≡ nothingHeard → Told m (refused n)
+  by-type : {v : ℕ} {k : MessageType} → (v ≡ 1 → isDescribed k ≡ false) → heard m ≡ heardBy (Typed v k) (typed v k) → Told m (typed v k)
+  by-wrong : {k : MessageType} → headIn m ≡ Typed 1 k → heard m ≡ heardBy (Typed 1 k) (refused 10) → Told m (refused 10)
+  by-lines : {k : MessageType} {a : Address} {s : Stream} → heard m ≡ heardBy (Typed 1 k) (described k a s) → Told m (described k a s)
 
 module _ (m : List ℕ) (short : length m ≤ mostRead) where
   read-by : (h : Head) → headIn m ≡ h → readMessage m ≡ byHead m h
@@ -43,8 +43,8 @@ module _ (m : List ℕ) (short : length m ≤ mostRead) where
   unfolding heard
   heard-by h r e q = rw (le-leb (length m) mostRead short, e, q)
 
-  told-finished : (k : Kind) (o : Option _) → headIn m ≡ Typed 1 k → readMessage m ≡ finish k o → Told m (finish k o)
-  unfolding finish
+  told-finished : (k : MessageType) (o : Option _) → headIn m ≡ Typed 1 k → readMessage m ≡ concluded k o → Told m (concluded k o)
+  unfolding concluded
   told-finished k none e q = by-wrong e (heard-by (Typed 1 k) (refused 10) e q)
   told-finished k (some d) e q =
       by-eq (d .had) 7 _
@@ -72,18 +72,18 @@ told m =
 
 -- ---- a message refused by 10; y is its version and type
 module _ (m : List ℕ) (ten : readMessage m ≡ refused 10) (y : Head) (is : y ≡ headIn m) where
-  wrong-head : (k : Kind) × (y ≡ Typed 1 k) × (heard m ≡ heardBy (Typed 1 k) (refused 10))
+  wrong-head : (k : MessageType) × (y ≡ Typed 1 k) × (heard m ≡ heardBy (Typed 1 k) (refused 10))
   wrong-head = go (rw ten at (told m))
     where
-      go : Told m (refused 10) → (k : Kind) × (y ≡ Typed 1 k) × (heard m ≡ heardBy (Typed 1 k) (refused 10))
+      go : Told m (refused 10) → (k : MessageType) × (y ≡ Typed 1 k) × (heard m ≡ heardBy (Typed 1 k) (refused 10))
       go (by-none h e) = absurd (h refl)
       go (by-wrong {k} h e) = (k, is ∙ h, e)
 
   pub wrong-untyped : y ≡ Untyped → heardIn m taken.Unreadable ≡ some (heard m)
   wrong-untyped u = let (k, h, e) = wrong-head in let z : _≡_ {A = ℕ} 0 1 = cc in absurd (omega arith)
 
-  module _ (v : ℕ) (k : Kind) (q : y ≡ Typed v k) where
-    wrong-kind : (j : Kind) → k ≡ j → heard m ≡ heardBy (Typed 1 j) (refused 10)
+  module _ (v : ℕ) (k : MessageType) (q : y ≡ Typed v k) where
+    wrong-kind : (j : MessageType) → k ≡ j → heard m ≡ heardBy (Typed 1 j) (refused 10)
     wrong-kind j r = let (i, h, e) = wrong-head in let same : i ≡ j = cc in rw same at e
 
     pub wrong-request : k ≡ Request → heardIn m taken.BadRequest ≡ some (heard m)
@@ -105,8 +105,8 @@ module _ (m : List ℕ) (ten : readMessage m ≡ refused 10) (y : Head) (is : y 
 pub ruleset wrongs = (wrong-untyped, wrong-request, wrong-accepted, wrong-confused, wrong-rejected)
 
 -- ---- messages of which no more than version and type is read
-module _ (k : Kind) where
-  typed-told : (m : List ℕ) (v : ℕ) → readMessage m ≡ typed v k → (j : Kind) → k ≡ j → (v ≡ 1 → isDescribed j ≡ false) × (heard m ≡ heardBy (Typed v j) (typed v j))
+module _ (k : MessageType) where
+  typed-told : (m : List ℕ) (v : ℕ) → readMessage m ≡ typed v k → (j : MessageType) → k ≡ j → (v ≡ 1 → isDescribed j ≡ false) × (heard m ≡ heardBy (Typed v j) (typed v j))
   typed-told m v p j r = go (rw (p, r) at (told m))
     where
       go : Told m (typed v j) → (v ≡ 1 → isDescribed j ≡ false) × (heard m ≡ heardBy (Typed v j) (typed v j))
@@ -147,17 +147,17 @@ module _ (m : List ℕ) (y : Message) (is : readingIn m y ≡ some (readMessage 
     unfolding heardIn
     hear-refused other = go other (rw read-refused at (told m))
       where
-        go : {i : ℕ} → (i ≡ 10 → ⊥) → Told m (refused i) → some unreadable ≡ some (heard m)
+        go : {i : ℕ} → (i ≡ 10 → ⊥) → Told m (refused i) → some nothingHeard ≡ some (heard m)
         go o (by-none h e) = rw e
         go o (by-wrong h e) = absurd (o refl)
 
-  pub hear-typed : (v : ℕ) (k : Kind) → y ≡ answer.Typed v k → (r : Taken) → ((l : List ℕ) (w : ℕ) → readMessage l ≡ typed w k → heardIn l r ≡ some (heard l))
+  pub hear-typed : (v : ℕ) (k : MessageType) → y ≡ answer.Typed v k → (r : Taken) → ((l : List ℕ) (w : ℕ) → readMessage l ≡ typed w k → heardIn l r ≡ some (heard l))
       → heardIn m r ≡ some (heard m)
   unfolding readingIn
   hear-typed v k q r f = f m v (let e : some (typed v k) ≡ some (readMessage m) = rw q at is in cc)
 
-  module _ (k : Kind) (a : Address) (s : Places) (q : y ≡ answer.Described k a s) where
-    described-told : (j : Kind) → k ≡ j → (t : Stream) × (streamIn m s ≡ some t) × (heard m ≡ heardBy (Typed 1 j) (described j a t))
+  module _ (k : MessageType) (a : Address) (s : Places) (q : y ≡ answer.Described k a s) where
+    described-told : (j : MessageType) → k ≡ j → (t : Stream) × (streamIn m s ≡ some t) × (heard m ≡ heardBy (Typed 1 j) (described j a t))
     unfolding readingIn
     described-told j r = go (streamIn m s) refl (rw (q, r) at is)
       where

@@ -17,20 +17,20 @@ use Rattle.configuration.specs.Meaning.{codecsBy, configurationBy}
 use Rattle.bearer.specs.declared.Bearer.{Bearer as Held}
 use Rattle.bearer.specs.Bearer.{Bearer}
 use Rattle.bearer.specs.Judging.{audio, rtpAvp, sameFamily, sameAddress, unmoved, rightStream, rightRequest}
-use Rattle.bearer.specs.Meaning.{bearerBy, namedBy, heldIf}
+use Rattle.bearer.specs.Meaning.{bearerBy, namedBy, bearerIf}
 
 -- ---- what is in force, if t says that a bearer is; u says whether its address is a
 module _ (t : Bool) (b : Held) (m : List ℕ) (a : Address) (s : Places) where
-  pub unmoved-none : t ≡ false → true ≡ unmoved (heldIf t (bearerBy b)) (namedBy m a s)
+  pub unmoved-none : t ≡ false → true ≡ unmoved (bearerIf t (bearerBy b)) (namedBy m a s)
   unfolding unmoved
   unmoved-none h = rw h
 
   module _ (h : t ≡ true) (u : Bool) (is : u ≡ sameAddress (b .address) a) where
-    pub unmoved-elsewhere : u ≡ false → false ≡ unmoved (heldIf t (bearerBy b)) (namedBy m a s)
+    pub unmoved-elsewhere : u ≡ false → false ≡ unmoved (bearerIf t (bearerBy b)) (namedBy m a s)
     unfolding unmoved bearerBy namedBy
     unmoved-elsewhere e = let x : sameAddress (b .address) a ≡ false = sym is ∙ e in rw (h, x)
 
-    pub unmoved-port : u ≡ true → (w : Bool) → w ≡ eqb (b .stream .port) (s .port) → w ≡ unmoved (heldIf t (bearerBy b)) (namedBy m a s)
+    pub unmoved-port : u ≡ true → (w : Bool) → w ≡ eqb (b .stream .port) (s .port) → w ≡ unmoved (bearerIf t (bearerBy b)) (namedBy m a s)
     unfolding unmoved bearerBy namedBy streamBy
     unmoved-port e w p = let x : sameAddress (b .address) a ≡ true = sym is ∙ e in rw (h, x) p
 

@@ -3,7 +3,7 @@ ghost use mathlib.Core.Path.{_≡_};
 ghost use Rattle.media.specs.Meaning.{streamBy};
 ghost use Rattle.configuration.specs.Meaning.{configurationBy};
 ghost use Rattle.bearer.specs.Judging.{sameOffer, sameHost, rightAccepted};
-ghost use Rattle.bearer.specs.Meaning.{requestBy, bearerBy, namedBy, heldIf};
+ghost use Rattle.bearer.specs.Meaning.{requestBy, bearerBy, namedBy, bearerIf};
 use crate::addresses::same_address;
 use crate::addresses::same_family;
 use address::Address;
@@ -45,7 +45,7 @@ fn same_offer(q: Request, s: Stream, m: &[u8]) -> bool
 
 // The address is as in the bearer b, where one is held.
 fn same_host(held: bool, b: Bearer, address: Address, s: Stream, m: &[u8]) -> bool
-    ensures { λ r. ⌜ r ≡ sameHost (heldIf held (bearerBy b)) (namedBy (now (m .entry)) address s) ⌝ }
+    ensures { λ r. ⌜ r ≡ sameHost (bearerIf held (bearerBy b)) (namedBy (now (m .entry)) address s) ⌝ }
 {
     let at = b.address;
     if held {
@@ -65,7 +65,7 @@ pub fn right_accepted(
     s: Stream,
     m: &[u8],
 ) -> bool
-    ensures { λ r. ⌜ r ≡ rightAccepted (configurationBy c) (heldIf held (bearerBy b)) (requestBy q) (namedBy (now (m .entry)) address s) ⌝ }
+    ensures { λ r. ⌜ r ≡ rightAccepted (configurationBy c) (bearerIf held (bearerBy b)) (requestBy q) (namedBy (now (m .entry)) address s) ⌝ }
 {
     let own = c.own;
     let ptime = s.ptime as u16;

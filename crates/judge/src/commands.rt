@@ -1,7 +1,7 @@
 // Commands turned into Requests.
 ghost use mathlib.Core.Path.{_≡_};
 ghost use mathlib.Core.Bool.{true, _&&_};
-ghost use Rattle.configuration.specs.Configuration.{suits, noneOrInRange};
+ghost use Rattle.configuration.specs.Configuration.{suits, ptimeNoneOrInRange};
 ghost use Rattle.configuration.specs.Meaning.{codecBy, configurationBy};
 ghost use Rattle.judge.specs.Commands.{Commands, Offers};
 use crate::Command;
@@ -9,7 +9,7 @@ use bearer::MOST_OFFERED;
 use bearer::Request;
 use configuration::Codec;
 use configuration::Config;
-use configuration::Entry;
+use configuration::FoundCodec;
 use configuration::Format;
 use configuration::codecs::entry_at;
 use configuration::codecs::push_name;
@@ -51,15 +51,15 @@ fn payload_for(k: Codec, payload: u16) -> u8
 
 // The packet time that a command names, which is none or in range.
 fn time_for(c: Config, ptime: u16) -> u8
-    requires { ⌜ noneOrInRange (configurationBy c) ptime ≡ true ⌝ }
+    requires { ⌜ ptimeNoneOrInRange (configurationBy c) ptime ≡ true ⌝ }
     ensures { λ r. ⌜ r ≡ ptime ⌝ }
 {
     (ptime % 256) as u8
 }
 
 // The entry is known, the payload suits it, and the packet time is none or in range.
-fn suits_command(c: Config, e: Entry, payload: u16, ptime: u16) -> bool
-    ensures { λ r. ⌜ r ≡ (e .known && (suits (codecBy (e .codec)) payload && noneOrInRange (configurationBy c) ptime)) ⌝ }
+fn suits_command(c: Config, e: FoundCodec, payload: u16, ptime: u16) -> bool
+    ensures { λ r. ⌜ r ≡ (e .known && (suits (codecBy (e .codec)) payload && ptimeNoneOrInRange (configurationBy c) ptime)) ⌝ }
 {
     let known = e.known;
     let codec = e.codec;

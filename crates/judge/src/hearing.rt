@@ -8,7 +8,7 @@ ghost use Rattle.bearer.specs.Hearing.{heard};
 ghost use Rattle.bearer.specs.Meaning.{heardIn};
 use bearer::Heard;
 use ipbcp::Head;
-use ipbcp::Kind;
+use ipbcp::MessageType;
 use ipbcp::Message;
 
 // A message that is refused by 10: its type alone counts.
@@ -20,22 +20,22 @@ fn hear_wrong(m: &[u8]) -> Heard
         return Heard::Unreadable;
     };
     match kind {
-        Kind::Request => Heard::BadRequest,
-        Kind::Accepted => Heard::BadAccepted,
-        Kind::Confused => Heard::Declined,
-        Kind::Rejected => Heard::Declined,
+        MessageType::Request => Heard::BadRequest,
+        MessageType::Accepted => Heard::BadAccepted,
+        MessageType::Confused => Heard::Declined,
+        MessageType::Rejected => Heard::Declined,
     }
 }
 
 // A message of which no more than version and type is read.
-fn hear_typed(kind: Kind) -> Heard
+fn hear_typed(kind: MessageType) -> Heard
     ensures { λ r. ⌜ ((m : List ℕ) (v : ℕ) → readMessage m ≡ Reading.typed v kind → heardIn m r ≡ some (heard m)) ⌝ }
 {
     match kind {
-        Kind::Request => Heard::OtherRequest,
-        Kind::Accepted => Heard::BadAccepted,
-        Kind::Confused => Heard::Declined, // of any version
-        Kind::Rejected => Heard::Declined,
+        MessageType::Request => Heard::OtherRequest,
+        MessageType::Accepted => Heard::BadAccepted,
+        MessageType::Confused => Heard::Declined, // of any version
+        MessageType::Rejected => Heard::Declined,
     }
 }
 
@@ -57,10 +57,10 @@ pub fn hear(m: &[u8]) -> Heard
             address,
             stream,
         } => match kind {
-            Kind::Request => Heard::Request { address, stream },
-            Kind::Accepted => Heard::Accepted { address, stream },
-            Kind::Confused => Heard::Declined,
-            Kind::Rejected => Heard::Declined,
+            MessageType::Request => Heard::Request { address, stream },
+            MessageType::Accepted => Heard::Accepted { address, stream },
+            MessageType::Confused => Heard::Declined,
+            MessageType::Rejected => Heard::Declined,
         },
     }
 }

@@ -3,7 +3,7 @@ ghost use mathlib.Core.Path.{_≡_};
 ghost use Rattle.media.specs.Meaning.{streamBy};
 ghost use Rattle.configuration.specs.Meaning.{configurationBy};
 ghost use Rattle.bearer.specs.Judging.{unmoved, rightStream, rightRequest, nearest};
-ghost use Rattle.bearer.specs.Meaning.{bearerBy, namedBy, heldIf};
+ghost use Rattle.bearer.specs.Meaning.{bearerBy, namedBy, bearerIf};
 use crate::addresses::same_address;
 use crate::addresses::same_family;
 use address::Address;
@@ -16,7 +16,7 @@ use octets::words::equals;
 
 // Address and port are as in the bearer b, where one is held.
 fn is_unmoved(held: bool, b: Bearer, address: Address, s: Stream, m: &[u8]) -> bool
-    ensures { λ r. ⌜ r ≡ unmoved (heldIf held (bearerBy b)) (namedBy (now (m .entry)) address s) ⌝ }
+    ensures { λ r. ⌜ r ≡ unmoved (bearerIf held (bearerBy b)) (namedBy (now (m .entry)) address s) ⌝ }
 {
     let at = b.address;
     let stream = b.stream;
@@ -53,7 +53,7 @@ pub fn right_request(
     s: Stream,
     m: &[u8],
 ) -> bool
-    ensures { λ r. ⌜ r ≡ rightRequest (configurationBy c) (heldIf held (bearerBy b)) (namedBy (now (m .entry)) address s) ⌝ }
+    ensures { λ r. ⌜ r ≡ rightRequest (configurationBy c) (bearerIf held (bearerBy b)) (namedBy (now (m .entry)) address s) ⌝ }
 {
     let own = c.own;
     if same_family(own, address) {

@@ -16,7 +16,7 @@ use Rattle.octets.proofs.CaseLaws.{by-eq, by-lt}
 use Rattle.octets.proofs.SplitLaws.{split-some, has-not}
 use Rattle.line_input.specs.declared.Gathered.{Gathered}
 use Rattle.line_input.specs.Gather.{gathered, Gathers}
-use Rattle.line_input.specs.Whole.{Text, Held, Over, fit, fitAll, held, Fed}
+use Rattle.line_input.specs.Whole.{Text, Held, Over, fit, fitAll, heldText, Fed}
 
 -- b put behind the last part
 unfoldable addLast : ℕ → List (List ℕ) → List (List ℕ)
@@ -106,8 +106,8 @@ unfolding put
 take-put l p n h = take-at (take n l ++ p) (drop (n + length p) l) (n + length p) (rw length-append (omega (arith, length-take-le n l h)))
 
 holds-more : (l t p : List ℕ) (n : ℕ) → n ≤ length l → take n l ≡ t → length p ≤ length l - n
-    → held (appended l n p) (n + min (length l - n) (length p)) (ltb (length l - n) (length p)) ≡ fit (length l) (t ++ p)
-unfolding held appended
+    → heldText (appended l n p) (n + min (length l - n) (length p)) (ltb (length l - n) (length p)) ≡ fit (length l) (t ++ p)
+unfolding heldText appended
 holds-more l t p n h e k =
     let m : n + min (length l - n) (length p) ≡ n + length p = omega arith in
     let lt : length t ≡ n = ap (λ (z : List ℕ). length z) (sym e) ∙ length-take-le n l h in
@@ -115,16 +115,16 @@ holds-more l t p n h e k =
     (sym (fit-yes (length l) (t ++ p) (rw length-append (omega arith))))
 
 holds-past : (l t p : List ℕ) (n : ℕ) → n ≤ length l → take n l ≡ t → length l - n < length p
-    → held (appended l n p) (n + min (length l - n) (length p)) (ltb (length l - n) (length p)) ≡ fit (length l) (t ++ p)
-unfolding held
+    → heldText (appended l n p) (n + min (length l - n) (length p)) (ltb (length l - n) (length p)) ≡ fit (length l) (t ++ p)
+unfolding heldText
 holds-past l t p n h e k =
     let lt : length t ≡ n = ap (λ (z : List ℕ). length z) (sym e) ∙ length-take-le n l h in
     rw (lt-ltb (length l - n) (length p) k)
     (sym (fit-no (length l) (t ++ p) (rw length-append (omega arith))))
 
-holds-after : (l t p : List ℕ) (n : ℕ) (over : Bool) → n ≤ length l → held l n over ≡ fit (length l) t
-    → held (appended l n p) (n + min (length l - n) (length p)) (over || ltb (length l - n) (length p)) ≡ fit (length l) (t ++ p)
-unfolding held
+holds-after : (l t p : List ℕ) (n : ℕ) (over : Bool) → n ≤ length l → heldText l n over ≡ fit (length l) t
+    → heldText (appended l n p) (n + min (length l - n) (length p)) (over || ltb (length l - n) (length p)) ≡ fit (length l) (t ++ p)
+unfolding heldText
 holds-after l t p n true h e = holds-over (length l) t p e
 holds-after l t p n false h e =
     let (u, k) = held-is (length l) t (take n l) e in
@@ -138,7 +138,7 @@ module _ (part l f : List ℕ) (from n : ℕ) (over : Bool) (r : Gathered) (g : 
       let p = take (length l - n) (before 10 (drop from part)) in
       ap (λ (z : List ℕ). length z) (g .leaves) ∙ length-put l n p (omega (arith, length-take (length l - n) (before 10 (drop from part))))
 
-  pub held-gathered : (t : List ℕ) → held l n over ≡ fit (length l) t → held f (r .len) (r .over) ≡ fit (length l) (t ++ before 10 (drop from part))
+  pub held-gathered : (t : List ℕ) → heldText l n over ≡ fit (length l) t → heldText f (r .len) (r .over) ≡ fit (length l) (t ++ before 10 (drop from part))
   unfolding gathered
   held-gathered t e = rw (g .answers, g .leaves) (holds-after l t (before 10 (drop from part)) n over h e)
 
@@ -149,14 +149,14 @@ fit-snoc cap (u ∷ ts) t = ap (λ (z : List Text). fit cap u ∷ z) (fit-snoc c
 
 -- The theorem, as three laws: they hold of every chain of calls of `gather`, however the octets are parted.
 -- Before the first call nothing is fed, and nothing is held.
-pub fed-start : (l : List ℕ) → Fed (length l) [] [] (held l 0 false)
-unfolding splitOn fitAll held
+pub fed-start : (l : List ℕ) → Fed (length l) [] [] (heldText l 0 false)
+unfolding splitOn fitAll heldText
 fed-start l = record { ended = []; open-line = []; cut = refl; handed = refl; holds = sym (fit-yes (length l) [] (omega arith)) }
 
 module _ (part l f s : List ℕ) (ts : List Text) (from n : ℕ) (over : Bool) (r : Gathered) (g : Gathers part from l n over r f) (h : n ≤ length l)
-    (fed : Fed (length l) s ts (held l n over)) where
+    (fed : Fed (length l) s ts (heldText l n over)) where
   -- a call that met no LF: all of the part is fed, and no line is handed out
-  pub fed-more : r .ended ≡ false → Fed (length f) (s ++ drop from part) ts (held f (r .len) (r .over))
+  pub fed-more : r .ended ≡ false → Fed (length f) (s ++ drop from part) ts (heldText f (r .len) (r .over))
   unfolding gathered
   fed-more e =
       let q = drop from part in
@@ -172,8 +172,8 @@ module _ (part l f s : List ℕ) (ts : List Text) (from n : ℕ) (over : Bool) (
       })
 
   -- a call that met an LF: the octets to it are fed, the line is handed out as it is held, and the next begins
-  pub fed-line : r .ended ≡ true → Fed (length f) (s ++ before 10 (drop from part) ++ (10 ∷ [])) (ts ++ (held f (r .len) (r .over) ∷ [])) (held f 0 false)
-  unfolding held
+  pub fed-line : r .ended ≡ true → Fed (length f) (s ++ before 10 (drop from part) ++ (10 ∷ [])) (ts ++ (heldText f (r .len) (r .over) ∷ [])) (heldText f 0 false)
+  unfolding heldText
   fed-line e =
       let p = before 10 (drop from part) in
       let x = held-gathered part l f from n over r g h (fed .open-line) (fed .holds) in

@@ -7,19 +7,20 @@ use lib.ListN.{length, drop}
 use lib.Dec.{ltb}
 use Rattle.octets.specs.Split.{has, before}
 use Rattle.octets.specs.Append.{appended}
+use Rattle.octets.specs.Text.{lf}
 use Rattle.line_input.specs.declared.Gathered.{Gathered}
 
 -- the answer, where s is what is left of the part, at position i, and the buffer has room for `free` octets behind the n in it
 unfoldable pub gathered : List ℕ → ℕ → ℕ → ℕ → Bool → Gathered
 gathered s i free n over =
     record {
-      len = n + min free (length (before 10 s));
-      over = over || ltb free (length (before 10 s));
-      next = i + length (before 10 s) + cond (has 10 s) 1 0;
-      ended = has 10 s;
+      len = n + min free (length (before lf s));
+      over = over || ltb free (length (before lf s));
+      next = i + length (before lf s) + cond (has lf s) 1 0;
+      ended = has lf s;
     }
 
 -- The call `gather(part, from, line, n, over)` answers r, and leaves f in the buffer in which l was.
 pub record Gathers (part : List ℕ) (from : ℕ) (l : List ℕ) (n : ℕ) (over : Bool) (r : Gathered) (f : List ℕ) : Type 0 where
   pub answers : r ≡ gathered (drop from part) from (length l - n) n over
-  pub leaves : f ≡ appended l n (before 10 (drop from part))
+  pub leaves : f ≡ appended l n (before lf (drop from part))

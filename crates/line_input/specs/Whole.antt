@@ -6,6 +6,7 @@ use mathlib.Core.Bool.{Bool, cond}
 use lib.ListN.{length, take}
 use lib.Dec.{leb}
 use Rattle.octets.specs.Split.{splitOn}
+use Rattle.octets.specs.Text.{lf}
 
 -- a line's text, or that it is too long
 pub data Text : Type 0 where
@@ -22,13 +23,13 @@ fitAll cap [] = []
 fitAll cap (t ∷ ts) = fit cap t ∷ fitAll cap ts
 
 -- what is held of a line: n octets of it are in the buffer l, or it is too long
-unfoldable pub held : List ℕ → ℕ → Bool → Text
-held l n over = cond over Over (Held (take n l))
+unfoldable pub heldText : List ℕ → ℕ → Bool → Text
+heldText l n over = cond over Over (Held (take n l))
 
 -- The octets s were fed to a buffer of cap octets. The lines that LF ended were handed out as ts, and of the one that is still open h is held.
 pub record Fed (cap : ℕ) (s : List ℕ) (ts : List Text) (h : Text) : Type 0 where
   pub ended : List (List ℕ)
   pub open-line : List ℕ
-  pub cut : splitOn 10 s ≡ ended ++ (open-line ∷ [])
+  pub cut : splitOn lf s ≡ ended ++ (open-line ∷ [])
   pub handed : ts ≡ fitAll cap ended
   pub holds : h ≡ fit cap open-line

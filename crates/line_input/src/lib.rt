@@ -35,7 +35,7 @@ fn is_over(over: bool, stored: usize, all: usize) -> bool
 pub fn gather(part: &[u8], from: usize, line: &mut [u8], len: usize, over: bool) -> Gathered
     ensures { λ r. ⌜ Gathers (now (part .entry)) from (now (line .entry)) len over r (now (line .exit)) ⌝ }
 {
-    let e = find_from(part, 10, from);
+    let e = find_from(part, b'\n', from);
     let n = push(up_to(after(part, from), e - from), line, len);
     let full = is_over(over, n - len, e - from);
     if e < part.len() {

@@ -12,7 +12,7 @@ use native.Mathlib.Omega.{arith}
 use borrow.Author.Tests.{lt-ltb, le-leb, eq-eqb}
 use Rattle.octets.specs.Append.{widthFrom, numberText}
 use Rattle.octets.specs.Decimal.{onNumber, isDigit}
-use Rattle.octets.specs.Split.{has, before, splitOn, partOf}
+use Rattle.octets.specs.Split.{has, before, splitOn, partAt}
 use Rattle.octets.specs.Words.{begins}
 use Rattle.octets.proofs.AppendLaws.{width-one, width-suc, length-last}
 use Rattle.octets.proofs.CaseLaws.{by-lt}
@@ -51,7 +51,7 @@ module _ (s : Stream) (a : has 32 (s .media) ≡ false) (b : has 32 (s .transpor
 
   pub media-back : 0 < length (s .media) → 0 < length (s .transport) → 1 ≤ s .port → s .port ≤ 65535 → s .payload ≤ 127
       → mediaOf (mediaText s) ≡ some (bareStream (s .media) (s .port) (s .transport) (s .payload))
-  unfolding mediaOf tokenCount noneEmpty partOf onNumber
+  unfolding mediaOf tokenCount noneEmpty partAt onNumber
   media-back p q l h k =
       rw media-split
       (simp (
@@ -68,7 +68,7 @@ module _ (s : Stream) (a : has 32 (s .media) ≡ false) (b : has 32 (s .transpor
 -- ---- the attributes
 pub rtpmap-back : (s : Stream) (text : List ℕ) → s .rtpmap ≡ [] → 0 < length text → s .payload ≤ 127
     → attributeOf s (rtpmapWord ++ (numberText (s .payload) ++ (32 ∷ text))) ≡ fitting (withRtpmap text s)
-unfolding attributeOf begins rtpmapOf partOf onNumber isDigit
+unfolding attributeOf begins rtpmapOf partAt onNumber isDigit
 rtpmap-back s text e p k =
     let h : has 32 (numberText (s .payload)) ≡ false = number-has 32 (s .payload) refl in
     rw (e, split-append 32 (numberText (s .payload)) text h)

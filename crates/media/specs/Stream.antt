@@ -6,6 +6,7 @@ use mathlib.Core.Bool.{Bool, cond}
 use lib.ListN.{length}
 use lib.Dec.{eqb, leb}
 use Rattle.octets.specs.Append.{numberText}
+use Rattle.octets.specs.Text.{ascii, blank}
 
 pub record Stream : Type 0 where
   pub media : List ℕ
@@ -31,28 +32,26 @@ bareStream media port transport payload = record {
   ptime = 0;
 }
 
--- what stands behind `m=`: media, port, transport and payload, with one blank (32) between two
+-- what stands behind `m=`: media, port, transport and payload, with one blank between two
 unfoldable pub mediaText : Stream → List ℕ
-mediaText s = s .media ++ (32 ∷ (numberText (s .port) ++ (32 ∷ (s .transport ++ (32 ∷ numberText (s .payload))))))
+mediaText s = s .media ++ (blank ∷ (numberText (s .port) ++ (blank ∷ (s .transport ++ (blank ∷ numberText (s .payload))))))
 
 -- ---- the texts of the attributes' lines, without their ends
--- "rtpmap:", "fmtp:" and "ptime:"
 abbrev pub rtpmapWord : List ℕ
-rtpmapWord = 114 ∷ 116 ∷ 112 ∷ 109 ∷ 97 ∷ 112 ∷ 58 ∷ []
+rtpmapWord = ascii "rtpmap:"
 
 abbrev pub fmtpWord : List ℕ
-fmtpWord = 102 ∷ 109 ∷ 116 ∷ 112 ∷ 58 ∷ []
+fmtpWord = ascii "fmtp:"
 
 abbrev pub ptimeWord : List ℕ
-ptimeWord = 112 ∷ 116 ∷ 105 ∷ 109 ∷ 101 ∷ 58 ∷ []
+ptimeWord = ascii "ptime:"
 
--- "a=" and what stands behind it
 unfoldable pub attributeText : List ℕ → List ℕ
-attributeText a = 97 ∷ 61 ∷ a
+attributeText a = ascii "a=" ++ a
 
--- the payload, one blank (32), and the text
+-- the payload, one blank, and the text
 unfoldable pub rtpmapText : ℕ → List ℕ → List ℕ
-rtpmapText payload text = attributeText (rtpmapWord ++ (numberText payload ++ (32 ∷ text)))
+rtpmapText payload text = attributeText (rtpmapWord ++ (numberText payload ++ (blank ∷ text)))
 
 unfoldable pub fmtpText : List ℕ → List ℕ
 fmtpText text = attributeText (fmtpWord ++ text)

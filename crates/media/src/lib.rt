@@ -77,7 +77,7 @@ pub fn bare(media: Span, port: u16, transport: Span, payload: u8) -> Stream
 pub(crate) fn token_number(t: &[u8], k: usize) -> Number
     ensures { λ r. ⌜ r ≡ readNumber (token k (now (t .entry))) ⌝ }
 {
-    read_number(part(t, 32, k))
+    read_number(part(t, b' ', k))
 }
 
 // The stream of a media line with this port and payload and no attribute yet; media and transport are these parts of the

@@ -10,7 +10,7 @@ use lib.Seq.{take-nil, take-at}
 use native.Mathlib.Omega.{arith}
 use borrow.Author.Tests.{le-leb, lt-leb, eq-eqb, leb-true}
 use Rattle.octets.specs.Append.{put, nextOf, appended, Appends}
-use Rattle.octets.specs.Hex.{isHexDigit, hexValue, allHex, isHex, octetsOf, digitIn}
+use Rattle.octets.specs.Hex.{isHexDigit, hexValue, allHex, isHex, hexOctets, digitIn}
 use Rattle.octets.proofs.Laws.{next, put-nil, put-cons}
 use Rattle.octets.proofs.AppendLaws.{append-room}
 use Rattle.octets.proofs.HexLaws.{none-digit, some-digit, length-octets}
@@ -102,8 +102,8 @@ octets-start t l = let z : length l - 0 ≡ length l = omega arith in rw z
 pub ruleset readings = (octets-start, octets-full, octets-first, octets-second, octets-done)
 
 -- ---- what the answer says
-before-all : (t : List ℕ) → allHex t ≡ true → octetsBefore t ≡ octetsOf t
-unfolding allHex octetsBefore octetsOf
+before-all : (t : List ℕ) → allHex t ≡ true → octetsBefore t ≡ hexOctets t
+unfolding allHex octetsBefore hexOctets
 before-all [] h = refl
 before-all (a ∷ []) h = refl
 before-all (a ∷ b ∷ t) h =
@@ -112,16 +112,16 @@ before-all (a ∷ b ∷ t) h =
     rw (p, r) (ap (λ (z : List ℕ). (hexValue a * 16 + hexValue b) ∷ z) (before-all t u))
 
 -- the octets were read
-pub read-back : (t l f : List ℕ) → ReadsOctets t l true f → (isHex t ≡ true) × (take (length t / 2) f ≡ octetsOf t)
+pub read-back : (t l f : List ℕ) → ReadsOctets t l true f → (isHex t ≡ true) × (take (length t / 2) f ≡ hexOctets t)
 unfolding isHex put
 read-back t l f r =
     let (h, k) = and-eq-true-iff (isHex t) (leb (length t / 2) (length l)) .0 (sym (r .answers)) in
     let m = leb-true (length t / 2) (length l) k in
     let n = length-octets t (length t / 2) refl in
-    let x : octetsBefore t ≡ octetsOf t = before-all t (and-eq-true-iff (eqb (length t % 2) 0) (allHex t) .0 h .1) in
-    let a : Appends l 0 (octetsOf t) (nextOf (length l) 0 (octetsOf t)) f = record { next = refl; leaves = rw (← x) (r .leaves) } in
-    let (e, g) = append-room l f 0 (octetsOf t) _ a (omega arith) in
-    (h, rw (g, ← n) (take-at (octetsOf t) (drop (0 + length (octetsOf t)) l) (length (octetsOf t)) refl))
+    let x : octetsBefore t ≡ hexOctets t = before-all t (and-eq-true-iff (eqb (length t % 2) 0) (allHex t) .0 h .1) in
+    let a : Appends l 0 (hexOctets t) (nextOf (length l) 0 (hexOctets t)) f = record { next = refl; leaves = rw (← x) (r .leaves) } in
+    let (e, g) = append-room l f 0 (hexOctets t) _ a (omega arith) in
+    (h, rw (g, ← n) (take-at (hexOctets t) (drop (0 + length (hexOctets t)) l) (length (hexOctets t)) refl))
 
 -- there is a fault in t, since it would have found room
 pub read-wrong : (t l f : List ℕ) → ReadsOctets t l false f → length t / 2 ≤ length l → isHex t ≡ false

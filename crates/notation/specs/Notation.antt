@@ -11,29 +11,30 @@ use Rattle.octets.specs.declared.Number.the-variants.{Value, Bad}
 use Rattle.octets.specs.Append.{appended, numberText}
 use Rattle.octets.specs.Decimal.{allDigits, valueFrom, shortest}
 use Rattle.octets.specs.Hex.{isHexDigit, hexValue, isHex, hexText}
+use Rattle.octets.specs.Text.{ascii, char}
 
 -- octets; none is `-`
 unfoldable pub octetsShown : List ℕ → List ℕ
-octetsShown s = cond (eqb (length s) 0) (45 ∷ []) (hexText s)
+octetsShown s = cond (eqb (length s) 0) (ascii "-") (hexText s)
 
 -- ---- texts of fmtp
 -- one; an empty one is `empty`
 unfoldable pub textShown : List ℕ → List ℕ
-textShown t = cond (eqb (length t) 0) (101 ∷ 109 ∷ 112 ∷ 116 ∷ 121 ∷ []) (hexText t)
+textShown t = cond (eqb (length t) 0) (ascii "empty") (hexText t)
 
 -- each of them behind a comma
 unfoldable pub textsBehind : List (List ℕ) → List ℕ
 textsBehind [] = []
-textsBehind (t ∷ ts) = (44 ∷ textShown t) ++ textsBehind ts
+textsBehind (t ∷ ts) = (char "," ∷ textShown t) ++ textsBehind ts
 
 -- all of them, with a comma between two; none is `-`
 unfoldable pub textsShown : List (List ℕ) → List ℕ
-textsShown [] = 45 ∷ []
+textsShown [] = ascii "-"
 textsShown (t ∷ ts) = textShown t ++ textsBehind ts
 
 -- ---- document 01's number n: `refused-N`
 unfoldable pub refusedShown : ℕ → List ℕ
-refusedShown n = (114 ∷ 101 ∷ 102 ∷ 117 ∷ 115 ∷ 101 ∷ 100 ∷ 45 ∷ []) ++ numberText n
+refusedShown n = ascii "refused-" ++ numberText n
 
 -- ---- octets in pairs of digits
 -- the octets of the pairs in front of the first that is not two digits

@@ -2,6 +2,7 @@
 ghost use mathlib.Core.Path.{_≡_};
 ghost use mathlib.Core.List.{_∷_, _++_};
 ghost use Prim.Native.Nat.{min};
+ghost use Rattle.octets.specs.Text.{char};
 ghost use Rattle.octets.specs.Append.{Appends};
 ghost use Rattle.octets.specs.Spans.{textOf};
 ghost use Rattle.media.specs.Meaning.{textsBy};
@@ -23,7 +24,7 @@ pub fn push_octets(s: &[u8], out: &mut [u8], at: usize) -> usize
     ensures { λ r. ⌜ Appends (now (out .entry)) at (octetsShown (now (s .entry))) r (now (out .exit)) ⌝ }
 {
     if s.len() == 0 {
-        return push_octet(45, out, at);
+        return push_octet(b'-', out, at);
     }
     push_hex(s, out, at)
 }
@@ -47,15 +48,15 @@ fn push_span(m: &[u8], sp: Span, out: &mut [u8], at: usize) -> usize
 
 // Appends a comma and the text of sp in m.
 fn push_next(m: &[u8], sp: Span, out: &mut [u8], at: usize) -> usize
-    ensures { λ r. ⌜ Appends (now (out .entry)) at (44 ∷ textShown (textOf (now (m .entry)) sp)) r (now (out .exit)) ⌝ }
+    ensures { λ r. ⌜ Appends (now (out .entry)) at (char "," ∷ textShown (textOf (now (m .entry)) sp)) r (now (out .exit)) ⌝ }
 {
-    let k = push_octet(44, out, at);
+    let k = push_octet(b',', out, at);
     push_span(m, sp, out, k)
 }
 
 // Appends two texts, a comma before each.
 fn push_both(m: &[u8], a: Span, b: Span, out: &mut [u8], at: usize) -> usize
-    ensures { λ r. ⌜ Appends (now (out .entry)) at ((44 ∷ textShown (textOf (now (m .entry)) a)) ++ (44 ∷ textShown (textOf (now (m .entry)) b))) r (now (out .exit)) ⌝ }
+    ensures { λ r. ⌜ Appends (now (out .entry)) at ((char "," ∷ textShown (textOf (now (m .entry)) a)) ++ (char "," ∷ textShown (textOf (now (m .entry)) b))) r (now (out .exit)) ⌝ }
 {
     let k = push_next(m, a, out, at);
     push_next(m, b, out, k)
@@ -70,7 +71,7 @@ pub fn push_texts(m: &[u8], x: Texts, out: &mut [u8], at: usize) -> usize
     let second = x.second;
     let third = x.third;
     if n == 0 {
-        return push_octet(45, out, at);
+        return push_octet(b'-', out, at);
     }
     let k = push_span(m, first, out, at);
     if n == 1 {
@@ -133,7 +134,7 @@ fn large(t: &[u8]) -> Number
     if t.len() < 2 {
         return Number::Bad;
     }
-    if t[0] == 48 {
+    if t[0] == b'0' {
         return Number::Bad;
     }
     if digit_run(t) {

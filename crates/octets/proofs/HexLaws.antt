@@ -11,7 +11,7 @@ use native.Mathlib.Numerals.{add-one}
 use native.Mathlib.Omega.{arith}
 use borrow.Author.Tests.{leb-true, lt-ltb, le-ltb, le-leb, lt-leb}
 use Rattle.octets.specs.Append.{Appends}
-use Rattle.octets.specs.Hex.{isHexDigit, hexValue, octetsOf, digitIn, hexDigit, hexText}
+use Rattle.octets.specs.Hex.{isHexDigit, hexValue, hexOctets, digitIn, hexDigit, hexText}
 use Rattle.octets.proofs.CaseLaws.{by-bool, by-lt}
 use Rattle.octets.proofs.AppendLaws.{append-nil, append-then}
 
@@ -34,11 +34,11 @@ module _ (b : ℕ) where
   unfolding digitIn isHexDigit hexValue
   digit-decimal h k = rw (le-ltb b 48 h, le-leb b 57 k)
 
-  pub digit-upper : 65 ≤ b → b ≤ 70 → b - 55 ≡ digitIn b
+  pub digit-upper : 65 ≤ b → b ≤ 70 → b - 65 + 10 ≡ digitIn b
   unfolding digitIn isHexDigit hexValue
   digit-upper h k = rw (le-ltb b 48 (omega arith), lt-leb b 57 (omega arith), le-ltb b 65 h, le-leb b 70 k)
 
-  pub digit-lower : 97 ≤ b → b ≤ 102 → b - 87 ≡ digitIn b
+  pub digit-lower : 97 ≤ b → b ≤ 102 → b - 97 + 10 ≡ digitIn b
   unfolding digitIn isHexDigit hexValue
   digit-lower h k =
       rw (le-ltb b 48 (omega arith), lt-leb b 57 (omega arith), le-ltb b 65 (omega arith), lt-leb b 70 (omega arith), le-ltb b 97 h, le-leb 97 b h, le-leb b 102 k)
@@ -69,8 +69,8 @@ module _ (b a : ℕ) (e : a ≡ digitIn b) where
       (λ p. (p, rw p at e))
       (λ p. let z : a ≡ 16 = rw p at e in absurd (omega arith))
 
-pub length-octets : (s : List ℕ) (w : ℕ) → w ≡ length s / 2 → length (octetsOf s) ≡ w
-unfolding octetsOf
+pub length-octets : (s : List ℕ) (w : ℕ) → w ≡ length s / 2 → length (hexOctets s) ≡ w
+unfolding hexOctets
 length-octets [] w e = omega arith
 length-octets (a ∷ []) w e = omega arith
 length-octets (a ∷ b ∷ s) w e = let z = length-octets s (length s / 2) refl in omega arith

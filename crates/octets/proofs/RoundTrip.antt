@@ -11,7 +11,7 @@ use borrow.Author.Tests.{lt-ltb, le-ltb, le-leb, lt-leb, ne-eqb}
 use Rattle.octets.specs.declared.Number.the-variants.{Value}
 use Rattle.octets.specs.Append.{widthFrom, numberText}
 use Rattle.octets.specs.Decimal.{isDigit, allDigits, valueFrom, shortest, numberFrom, readNumber, lastDigits}
-use Rattle.octets.specs.Hex.{hexValue, octetsOf, hexDigit, hexText}
+use Rattle.octets.specs.Hex.{hexValue, hexOctets, hexDigit, hexText}
 use Rattle.octets.specs.Split.{has}
 use Rattle.octets.proofs.CaseLaws.{by-eq, by-lt}
 use Rattle.octets.proofs.AppendLaws.{width-one, width-suc}
@@ -95,14 +95,14 @@ unfolding hexValue hexDigit
 value-digit d h =
     by-lt d 10 _
     (λ g. simp (lt-ltb d 10 g, le-ltb (48 + d) 48 (omega arith), le-leb (48 + d) 57 (omega arith)) (omega arith))
-    (λ g. simp (le-ltb d 10 g, le-ltb (55 + d) 48 (omega arith), lt-leb (55 + d) 57 (omega arith), le-ltb (55 + d) 65 (omega arith), le-leb (55 + d) 70 (omega arith)) (omega arith))
+    (λ g. simp (le-ltb d 10 g, le-ltb (65 + (d - 10)) 48 (omega arith), lt-leb (65 + (d - 10)) 57 (omega arith), le-ltb (65 + (d - 10)) 65 (omega arith), le-leb (65 + (d - 10)) 70 (omega arith)) (omega arith))
 
 -- octets as digits are read as those octets
-pub hex-back : (s : List ℕ) → ((i : ℕ) → i < length s → getD s i 0 < 256) → octetsOf (hexText s) ≡ s
-unfolding hexText octetsOf
+pub hex-back : (s : List ℕ) → ((i : ℕ) → i < length s → getD s i 0 < 256) → hexOctets (hexText s) ≡ s
+unfolding hexText hexOctets
 hex-back [] h = refl
 hex-back (b ∷ bs) h =
     let low : b < 256 = h 0 (omega arith) in
     let e : b / 16 * 16 + b % 16 ≡ b = omega arith in
-    let tail : octetsOf (hexText bs) ≡ bs = hex-back bs (λ i p. h (suc i) (omega arith)) in
+    let tail : hexOctets (hexText bs) ≡ bs = hex-back bs (λ i p. h (suc i) (omega arith)) in
     rw (value-digit (b / 16) (omega arith), value-digit (b % 16) (omega arith), e, tail)

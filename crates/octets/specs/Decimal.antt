@@ -3,12 +3,12 @@ use Prim.Native.Nat.{ℕ, zero, suc, _+_, _-_, _*_, _/_, _%_}
 use mathlib.Core.List.{List, [], _∷_, _++_}
 use mathlib.Core.Bool.{Bool, true, false, not, _&&_, cond}
 use lib.Dec.{leb, eqb}
+use Rattle.octets.specs.Text.{char}
 use Rattle.octets.specs.declared.Number.{Number}
 use Rattle.octets.specs.declared.Number.the-variants.{Value, Bad}
 
--- '0' to '9'
 unfoldable pub isDigit : ℕ → Bool
-isDigit b = leb 48 b && leb b 57
+isDigit b = leb (char "0") b && leb b (char "9")
 
 -- s has digits alone
 unfoldable pub allDigits : List ℕ → Bool
@@ -18,13 +18,13 @@ allDigits (b ∷ bs) = isDigit b && allDigits bs
 -- the number that the digits after n's stand for
 unfoldable pub valueFrom : ℕ → List ℕ → ℕ
 valueFrom n [] = n
-valueFrom n (b ∷ bs) = valueFrom (n * 10 + (b - 48)) bs
+valueFrom n (b ∷ bs) = valueFrom (n * 10 + (b - char "0")) bs
 
 -- one digit, or several of which the first is not '0'
 unfoldable pub shortest : List ℕ → Bool
 shortest [] = false
 shortest (b ∷ []) = true
-shortest (b ∷ c ∷ bs) = not (eqb b 48)
+shortest (b ∷ c ∷ bs) = not (eqb b (char "0"))
 
 -- the number after n of the digits of s, where s has digits alone and the number is at most 65535
 unfoldable pub numberFrom : ℕ → List ℕ → Number
@@ -37,7 +37,7 @@ readNumber s = cond (shortest s) (numberFrom 0 s) Bad
 -- n's last k digits
 unfoldable pub lastDigits : ℕ → ℕ → List ℕ
 lastDigits zero n = []
-lastDigits (suc k) n = lastDigits k (n / 10) ++ ((48 + n % 10) ∷ [])
+lastDigits (suc k) n = lastDigits k (n / 10) ++ ((char "0" + n % 10) ∷ [])
 
 -- by cases on a `Number`
 unfoldable pub onNumber : {X : Type 0} → Number → (ℕ → X) → X → X

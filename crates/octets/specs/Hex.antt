@@ -4,25 +4,25 @@ use mathlib.Core.List.{List, [], _∷_}
 use mathlib.Core.Bool.{Bool, true, false, _&&_, cond}
 use lib.ListN.{length}
 use lib.Dec.{leb, ltb, eqb}
+use Rattle.octets.specs.Text.{char}
 
--- '0' to '9', 'A' to 'F', 'a' to 'f'
 unfoldable pub isHexDigit : ℕ → Bool
 isHexDigit b =
-    cond (ltb b 48) false
-    (cond (leb b 57) true
-    (cond (ltb b 65) false
-    (cond (leb b 70) true
-    (leb 97 b && leb b 102))))
+    cond (ltb b (char "0")) false
+    (cond (leb b (char "9")) true
+    (cond (ltb b (char "A")) false
+    (cond (leb b (char "F")) true
+    (leb (char "a") b && leb b (char "f")))))
 
 -- a digit's value; 0 for an octet that is no digit
 unfoldable pub hexValue : ℕ → ℕ
 hexValue b =
-    cond (ltb b 48) 0
-    (cond (leb b 57) (b - 48)
-    (cond (ltb b 65) 0
-    (cond (leb b 70) (b - 55)
-    (cond (ltb b 97) 0
-    (cond (leb b 102) (b - 87) 0)))))
+    cond (ltb b (char "0")) 0
+    (cond (leb b (char "9")) (b - char "0")
+    (cond (ltb b (char "A")) 0
+    (cond (leb b (char "F")) (b - char "A" + 10)
+    (cond (ltb b (char "a")) 0
+    (cond (leb b (char "f")) (b - char "a" + 10) 0)))))
 
 -- s has digits alone
 unfoldable pub allHex : List ℕ → Bool
@@ -34,10 +34,10 @@ unfoldable pub isHex : List ℕ → Bool
 isHex s = eqb (length s % 2) 0 && allHex s
 
 -- the octets that the pairs of digits stand for
-unfoldable pub octetsOf : List ℕ → List ℕ
-octetsOf [] = []
-octetsOf (a ∷ []) = []
-octetsOf (a ∷ b ∷ s) = (hexValue a * 16 + hexValue b) ∷ octetsOf s
+unfoldable pub hexOctets : List ℕ → List ℕ
+hexOctets [] = []
+hexOctets (a ∷ []) = []
+hexOctets (a ∷ b ∷ s) = (hexValue a * 16 + hexValue b) ∷ hexOctets s
 
 -- for the code: the value of a digit; 16 for an octet that is none
 unfoldable pub digitIn : ℕ → ℕ
@@ -45,7 +45,7 @@ digitIn b = cond (isHexDigit b) (hexValue b) 16
 
 -- the digit that stands for d, in upper case
 unfoldable pub hexDigit : ℕ → ℕ
-hexDigit d = cond (ltb d 10) (48 + d) (55 + d)
+hexDigit d = cond (ltb d 10) (char "0" + d) (char "A" + (d - 10))
 
 -- two digits for each octet, the high one first
 unfoldable pub hexText : List ℕ → List ℕ

@@ -1,4 +1,5 @@
 -- What the contracts of this crate speak of, a file for each subject.
+pub mod Text
 pub mod Split
 pub mod Puts
 pub mod Append

@@ -37,10 +37,10 @@ pub record Found (s : List ℕ) (c from r : ℕ) : Type 0 where
   pub high : r ≤ max from (length s)
 
 -- part k of ps, from 0; an empty one where there is none
-unfoldable pub partOf : ℕ → List (List ℕ) → List ℕ
-partOf k [] = []
-partOf zero (p ∷ ps) = p
-partOf (suc k) (p ∷ ps) = partOf k ps
+unfoldable pub partAt : ℕ → List (List ℕ) → List ℕ
+partAt k [] = []
+partAt zero (p ∷ ps) = p
+partAt (suc k) (p ∷ ps) = partAt k ps
 
 -- how many c's are in s
 unfoldable pub separatorsOf : ℕ → List ℕ → ℕ

@@ -55,11 +55,11 @@ fn put_digits(n: u64, d: &mut [u8]) -> usize
     let mut m = n;
     let mut k = 19;
     while 0 < k && 9 < m {
-        d[k] = 48 + (m % 10) as u8;
+        d[k] = b'0' + (m % 10) as u8;
         m /= 10;
         k -= 1;
     }
-    d[k] = 48 + (m % 10) as u8;
+    d[k] = b'0' + (m % 10) as u8;
     k
 }
 

@@ -11,13 +11,13 @@ fn digits(s: &[u8]) -> Number
     let mut i = 0;
     while i < s.len() {
         let b = s[i];
-        if b < 48 {
+        if b < b'0' {
             return Number::Bad;
         }
-        if 57 < b {
+        if b'9' < b {
             return Number::Bad;
         }
-        n = n * 10 + (b - 48) as u32;
+        n = n * 10 + (b - b'0') as u32;
         if 65535 < n {
             return Number::Bad;
         }
@@ -36,7 +36,7 @@ pub fn read_number(s: &[u8]) -> Number
     if s.len() < 2 {
         return digits(s);
     }
-    if s[0] == 48 {
+    if s[0] == b'0' {
         return Number::Bad;
     }
     digits(s)

@@ -10,14 +10,14 @@ use crate::append;
 pub fn digit(b: u8) -> u8
     ensures { λ r. ⌜ r ≡ digitIn b ⌝ }
 {
-    if 48 <= b && b <= 57 {
-        return b - 48;
+    if b'0' <= b && b <= b'9' {
+        return b - b'0';
     }
-    if 65 <= b && b <= 70 {
-        return b - 55;
+    if b'A' <= b && b <= b'F' {
+        return b - b'A' + 10;
     }
-    if 97 <= b && b <= 102 {
-        return b - 87;
+    if b'a' <= b && b <= b'f' {
+        return b - b'a' + 10;
     }
     16
 }
@@ -28,9 +28,9 @@ fn hex_digit(d: u8) -> u8
     ensures { λ r. ⌜ r ≡ hexDigit d ⌝ }
 {
     if d < 10 {
-        return 48 + d;
+        return b'0' + d;
     }
-    55 + d
+    b'A' + (d - 10)
 }
 
 // Appends b as two digits.

@@ -2,7 +2,7 @@
 ghost use mathlib.Core.Path.{_≡_};
 ghost use Prim.Native.Nat.{_-_};
 ghost use lib.ListN.{length};
-ghost use Rattle.octets.specs.Split.{findAt, Found, splitOn, partOf, separatorsOf};
+ghost use Rattle.octets.specs.Split.{findAt, Found, splitOn, partAt, separatorsOf};
 
 // The first of the last three positions of s; 0 where it has no more than three. Octets below it can be looked at in fours.
 pub fn last_three(s: &[u8]) -> usize
@@ -54,7 +54,7 @@ pub fn find_from(s: &[u8], c: u8, from: usize) -> usize
 
 // The k-th part of s between its c's, from 0; an empty one where there is none.
 pub fn part(s: &[u8], c: u8, k: usize) -> &[u8]
-    ensures { λ r. ⌜ now r ≡ partOf k (splitOn c (now (s .entry))) ⌝ }
+    ensures { λ r. ⌜ now r ≡ partAt k (splitOn c (now (s .entry))) ⌝ }
 {
     let mut i = 0;
     let mut left = k;

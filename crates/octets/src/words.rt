@@ -37,10 +37,10 @@ fn all_digits(s: &[u8]) -> bool
     let mut i = 0;
     while i < s.len() {
         let b = s[i];
-        if b < 48 {
+        if b < b'0' {
             return false;
         }
-        if 57 < b {
+        if b'9' < b {
             return false;
         }
         i += 1;

@@ -18,7 +18,7 @@ use Rattle.octets.proofs.SplitLaws.{has-before, has-not, split-dot, split-last}
 use Rattle.sdp.specs.declared.Line.{Line}
 use Rattle.sdp.specs.declared.Line.the-variants.{Text, NoLine}
 use Rattle.sdp.specs.Lines.{withoutCr, endedParts, lastPart, lines, allEnded, isLine, allLines, inLines}
-use Rattle.sdp.specs.Cut.{Front, line, noLine, firstLine, lineIn}
+use Rattle.sdp.specs.Cut.{FirstLine, line, noLine, firstLine, lineIn}
 
 pub lines-nil : lines [] ≡ []
 unfolding lines endedParts splitOn
@@ -108,11 +108,11 @@ inLines-none s q l =
     (λ h. rw (ended-not s h l))
 
 -- ---- for loops over lines: y is what `next_line` answers at i
-told-some : (b : Bool) (x y : Front) → cond b (some x) none ≡ some y → x ≡ y
+told-some : (b : Bool) (x y : FirstLine) → cond b (some x) none ≡ some y → x ≡ y
 told-some true x y q = cc
 told-some false x y q = let z : _≡_ {A = ℕ} 0 1 = cc in absurd (omega arith)
 
-told-other : (x : Front) → some noLine ≡ some x → x ≡ noLine
+told-other : (x : FirstLine) → some noLine ≡ some x → x ≡ noLine
 told-other x q = cc
 
 module _ (m : List ℕ) (i : ℕ) (y : Line) (w : lineIn m y ≡ some (firstLine (drop i m))) where

@@ -9,28 +9,29 @@ use lib.ListN.{length, drop}
 use lib.Dec.{leb}
 use Rattle.octets.specs.Split.{has, before}
 use Rattle.octets.specs.Spans.{textOf, inside}
+use Rattle.octets.specs.Text.{char, lf}
 use Rattle.sdp.specs.Lines.{withoutCr, isPlain, isLine}
 use Rattle.sdp.specs.declared.Line.{Line}
 use Rattle.sdp.specs.declared.Line.the-variants.{Text, NoLine}
 
-pub data Front : Type 0 where
+pub data FirstLine : Type 0 where
   -- a line, and all that stands after its end
-  line : List ℕ → List ℕ → Front
+  line : List ℕ → List ℕ → FirstLine
   -- what is no line, or has no end, or nothing at all
-  noLine : Front
+  noLine : FirstLine
 
 -- the line at the front of s
-unfoldable pub firstLine : List ℕ → Front
+unfoldable pub firstLine : List ℕ → FirstLine
 firstLine s =
-    cond (has 10 s && isLine (withoutCr (before 10 s)))
-    (line (withoutCr (before 10 s)) (drop (length (before 10 s) + 1) s))
+    cond (has lf s && isLine (withoutCr (before lf s)))
+    (line (withoutCr (before lf s)) (drop (length (before lf s) + 1) s))
     noLine
 
--- What a `Line` stands for in m: its letter, `=` (61) and its value. The value lies inside m, and so does the place after
+-- What a `Line` stands for in m: its letter, `=` and its value. The value lies inside m, and so does the place after
 -- the line's end.
-unfoldable pub lineIn : List ℕ → Line → Option Front
+unfoldable pub lineIn : List ℕ → Line → Option FirstLine
 lineIn m (Text letter value next) =
-    cond (inside m value && leb next (length m)) (some (line (letter ∷ 61 ∷ textOf m value) (drop next m))) none
+    cond (inside m value && leb next (length m)) (some (line (letter ∷ char "=" ∷ textOf m value) (drop next m))) none
 lineIn m NoLine = some noLine
 
 -- For functions that are not public: what of s stands before its first 0, CR or LF.

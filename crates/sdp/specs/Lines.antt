@@ -5,12 +5,13 @@ use mathlib.Core.Bool.{Bool, true, false, not, _&&_, cond}
 use lib.ListN.{length}
 use lib.Dec.{eqb, leb}
 use Rattle.octets.specs.Split.{splitOn}
+use Rattle.octets.specs.Text.{char, lf, cr}
 
--- ---- a line ends in LF (10), or in CR (13) and LF; so does the last
+-- ---- a line ends in LF, or in CR and LF; so does the last
 -- p less a CR at its end
 unfoldable pub withoutCr : List ℕ → List ℕ
 withoutCr [] = []
-withoutCr (b ∷ []) = cond (eqb b 13) [] (b ∷ [])
+withoutCr (b ∷ []) = cond (eqb b cr) [] (b ∷ [])
 withoutCr (b ∷ c ∷ bs) = b ∷ withoutCr (c ∷ bs)
 
 -- of the parts between LFs, those that an LF ends, less the CR before it
@@ -27,15 +28,15 @@ lastPart (p ∷ q ∷ ps) = lastPart (q ∷ ps)
 
 -- the lines of m, without their ends
 unfoldable pub lines : List ℕ → List (List ℕ)
-lines m = endedParts (splitOn 10 m)
+lines m = endedParts (splitOn lf m)
 
 -- nothing stands behind the last LF
 unfoldable pub allEnded : List ℕ → Bool
-allEnded m = eqb (length (lastPart (splitOn 10 m))) 0
+allEnded m = eqb (length (lastPart (splitOn lf m))) 0
 
--- ---- a line is a lower-case letter, `=` (61), and octets that are not 0, CR or LF
+-- ---- a line is a lower-case letter, `=`, and octets that are not 0, CR or LF
 unfoldable pub isPlain : ℕ → Bool
-isPlain b = not (eqb b 0) && (not (eqb b 13) && not (eqb b 10))
+isPlain b = not (eqb b 0) && (not (eqb b cr) && not (eqb b lf))
 
 unfoldable pub allPlain : List ℕ → Bool
 allPlain [] = true
@@ -44,7 +45,7 @@ allPlain (b ∷ bs) = isPlain b && allPlain bs
 unfoldable pub isLine : List ℕ → Bool
 isLine [] = false
 isLine (a ∷ []) = false
-isLine (a ∷ e ∷ v) = leb 97 a && (leb a 122 && (eqb e 61 && allPlain v))
+isLine (a ∷ e ∷ v) = leb (char "a") a && (leb a (char "z") && (eqb e (char "=") && allPlain v))
 
 unfoldable pub allLines : List (List ℕ) → Bool
 allLines [] = true

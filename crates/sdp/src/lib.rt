@@ -27,10 +27,10 @@ fn is_plain(b: u8) -> bool
     if b == 0 {
         return false;
     }
-    if b == 13 {
+    if b == b'\r' {
         return false;
     }
-    b != 10
+    b != b'\n'
 }
 
 // A place at i or after it, with plain octets alone between: four are passed at a time, as long as each is above CR.
@@ -84,13 +84,13 @@ pub fn all_plain(s: &[u8]) -> bool
 fn is_start(a: u8, e: u8) -> bool
     ensures { λ r. ⌜ r ≡ (leb 97 a && (leb a 122 && eqb e 61)) ⌝ }
 {
-    if a < 97 {
+    if a < b'a' {
         return false;
     }
-    if 122 < a {
+    if b'z' < a {
         return false;
     }
-    e == 61
+    e == b'='
 }
 
 // The line that starts at i.
@@ -112,21 +112,21 @@ pub fn next_line(m: &[u8], i: usize) -> Line
             len: len - 2,
         };
         let b = m[e];
-        if b == 10 {
+        if b == b'\n' {
             return Line::Text {
                 letter,
                 value,
                 next: e + 1,
             };
         }
-        if b != 13 {
+        if b != b'\r' {
             return Line::NoLine;
         }
         let lf = e + 1;
         if m.len() <= lf {
             return Line::NoLine;
         }
-        if m[lf] == 10 {
+        if m[lf] == b'\n' {
             return Line::Text {
                 letter,
                 value,

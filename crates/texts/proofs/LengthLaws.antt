@@ -12,7 +12,7 @@ use lib.Seq.{take-all, length-take-le}
 use lib.Dec.{eqb, leb, ltb}
 use native.Mathlib.Omega.{arith}
 use borrow.Author.Tests.{ltb-true, eqb-true, lt-ltb, le-ltb, le-leb, lt-leb, eq-eqb, ne-eqb}
-use Rattle.octets.specs.Split.{before, splitOn, findAt, Found, partOf}
+use Rattle.octets.specs.Split.{before, splitOn, findAt, Found, partAt}
 use Rattle.octets.proofs.CaseLaws.{by-eq, by-le, by-lt, by-bool}
 use Rattle.octets.proofs.SplitLaws.{found-first, found, split-some, part-is, part-dot, part-last}
 use Rattle.texts.specs.Tokens.{token, noneEmpty, tokenCount, behindBlank}
@@ -208,11 +208,11 @@ module _ (s : List ℕ) (y : Two) (is : twoBy s y ≡ tokensOf 2 s) where
     two-count = are 2 s _ two-is .0
 
     pub two-first : token 0 s ≡ take a s
-    unfolding partOf
+    unfolding partAt
     two-first = rw (are 2 s _ two-is .1)
 
     pub two-second : token 1 s ≡ drop (a + 1) s
-    unfolding partOf
+    unfolding partAt
     two-second = rw (are 2 s _ two-is .1)
 
     pub two-fits : length s < 2 ^ 64 → Fits w64 (a + 1)
@@ -234,15 +234,15 @@ module _ (s : List ℕ) (y : Three) (is : threeBy s y ≡ tokensOf 3 s) where
     three-count = are 3 s _ three-is .0
 
     pub three-first : token 0 s ≡ take a s
-    unfolding partOf
+    unfolding partAt
     three-first = rw (are 3 s _ three-is .1)
 
     pub three-second : token 1 s ≡ take b (drop (a + 1) s)
-    unfolding partOf
+    unfolding partAt
     three-second = rw (are 3 s _ three-is .1)
 
     pub three-third : token 2 s ≡ drop (b + 1) (drop (a + 1) s)
-    unfolding partOf
+    unfolding partAt
     three-third = rw (are 3 s _ three-is .1)
 
     three-long : a + 1 + (b + 1) < length s
@@ -270,19 +270,19 @@ module _ (s : List ℕ) (y : Four) (is : fourBy s y ≡ tokensOf 4 s) where
     four-count = are 4 s _ four-is .0
 
     pub four-first : token 0 s ≡ take a s
-    unfolding partOf
+    unfolding partAt
     four-first = rw (are 4 s _ four-is .1)
 
     pub four-second : token 1 s ≡ take b (drop (a + 1) s)
-    unfolding partOf
+    unfolding partAt
     four-second = rw (are 4 s _ four-is .1)
 
     pub four-third : token 2 s ≡ take c (drop (b + 1) (drop (a + 1) s))
-    unfolding partOf
+    unfolding partAt
     four-third = rw (are 4 s _ four-is .1)
 
     pub four-fourth : token 3 s ≡ drop (c + 1) (drop (b + 1) (drop (a + 1) s))
-    unfolding partOf
+    unfolding partAt
     four-fourth = rw (are 4 s _ four-is .1)
 
     four-long : a + 1 + (b + 1) + (c + 1) < length s
@@ -341,7 +341,7 @@ behind-tokens s n =
 module _ (s : List ℕ) (n : ℕ) where
   pub behind-more : eqb (tokenCount (behindToken s)) (suc n) ≡ true
       → (eqb (tokenCount s) (suc (suc n)) ≡ true) × ((k : ℕ) → token (suc k) s ≡ token k (behindToken s))
-  unfolding partOf
+  unfolding partAt
   behind-more h =
       let z : tokensOf (suc n) (behindToken s) ≡ some (splitOn 32 (behindToken s)) = tokens-there (suc n) (behindToken s) h in
       let y : some (take (findAt s 32 0) s ∷ splitOn 32 (behindToken s)) ≡ tokensOf (suc (suc n)) s = sym (behind-tokens s n ∙ rw z) in

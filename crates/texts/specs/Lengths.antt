@@ -7,6 +7,7 @@ use mathlib.Core.Option.{Option, none, some}
 use lib.ListN.{length, take, drop}
 use lib.Dec.{eqb, ltb}
 use Rattle.octets.specs.Split.{before, splitOn}
+use Rattle.octets.specs.Text.{blank}
 use Rattle.texts.specs.Tokens.{tokenCount, behindBlank}
 use Rattle.texts.specs.declared.Two.{Two}
 use Rattle.texts.specs.declared.Two.the-variants as two
@@ -18,11 +19,11 @@ use Rattle.texts.specs.declared.Four.the-variants as four
 -- what stands after the first token of s and its blank; nothing where that token is empty or
 -- the last
 unfoldable pub behindToken : List ℕ → List ℕ
-behindToken s = cond (ltb 0 (length (before 32 s))) (behindBlank s) []
+behindToken s = cond (ltb 0 (length (before blank s))) (behindBlank s) []
 
 -- the tokens of s, if there are n
 unfoldable pub tokensOf : ℕ → List ℕ → Option (List (List ℕ))
-tokensOf n s = cond (eqb (tokenCount s) n) (some (splitOn 32 s)) none
+tokensOf n s = cond (eqb (tokenCount s) n) (some (splitOn blank s)) none
 
 unfoldable pub oneBy : List ℕ → Bool → Option (List (List ℕ))
 oneBy s b = cond b (some (s ∷ [])) none

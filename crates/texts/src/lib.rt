@@ -64,7 +64,7 @@ pub fn skip(m: &[u8], sp: Span, n: usize) -> Span
 pub fn behind_blank(s: &[u8]) -> Span
     ensures { λ r. ⌜ textOf (now (s .entry)) r ≡ behindBlank (now (s .entry)) ⌝ }
 {
-    let e = find_from(s, 32, 0);
+    let e = find_from(s, b' ', 0);
     if s.len() <= e {
         return Span { at: 0, len: 0 };
     }
@@ -78,7 +78,7 @@ pub fn behind_blank(s: &[u8]) -> Span
 pub fn behind_token(s: &[u8]) -> &[u8]
     ensures { λ r. ⌜ now r ≡ behindToken (now (s .entry)) ⌝ }
 {
-    let e = find_from(s, 32, 0);
+    let e = find_from(s, b' ', 0);
     if e < 1 {
         return &s[..0];
     }
@@ -92,7 +92,7 @@ fn is_token(s: &[u8]) -> bool
     if s.len() < 1 {
         return false;
     }
-    let e = find_from(s, 32, 0);
+    let e = find_from(s, b' ', 0);
     s.len() <= e
 }
 
@@ -100,7 +100,7 @@ fn is_token(s: &[u8]) -> bool
 pub fn cut_two(s: &[u8]) -> Two
     ensures { λ r. ⌜ twoBy (now (s .entry)) r ≡ tokensOf 2 (now (s .entry)) ⌝ }
 {
-    let e = find_from(s, 32, 0);
+    let e = find_from(s, b' ', 0);
     if e < 1 {
         return Two::Other;
     }
@@ -117,7 +117,7 @@ pub fn cut_two(s: &[u8]) -> Two
 pub fn cut_three(s: &[u8]) -> Three
     ensures { λ r. ⌜ threeBy (now (s .entry)) r ≡ tokensOf 3 (now (s .entry)) ⌝ }
 {
-    let e = find_from(s, 32, 0);
+    let e = find_from(s, b' ', 0);
     if e < 1 {
         return Three::Other;
     }
@@ -134,7 +134,7 @@ pub fn cut_three(s: &[u8]) -> Three
 pub fn cut_four(s: &[u8]) -> Four
     ensures { λ r. ⌜ fourBy (now (s .entry)) r ≡ tokensOf 4 (now (s .entry)) ⌝ }
 {
-    let e = find_from(s, 32, 0);
+    let e = find_from(s, b' ', 0);
     if e < 1 {
         return Four::Other;
     }

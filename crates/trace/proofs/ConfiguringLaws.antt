@@ -15,13 +15,12 @@ use Rattle.octets.proofs.AppendLaws.{append-then}
 use Rattle.octets.proofs.AppendLaws as appending
 use Rattle.book.specs.Book.{idle}
 use Rattle.configuration.specs.declared.Config.{Config}
-use Rattle.configuration.specs.declared.Entry.{Entry}
+use Rattle.configuration.specs.declared.FoundCodec.{FoundCodec}
 use Rattle.configuration.specs.Configuration.{Codec, Configuration, entryIn}
-use Rattle.configuration.specs.Meaning.{codecBy, codecsBy, configurationBy, entryBy, configInside}
+use Rattle.configuration.specs.Meaning.{codecBy, codecsBy, configurationBy, foundBy, configInside}
 use Rattle.endpoint.specs.declared.Endpoint.{Endpoint}
-use Rattle.endpoint.specs.declared.Opening.{Opening}
-use Rattle.endpoint.specs.Call.{Opens}
-use Rattle.endpoint.specs.Step.{bookOf}
+use Rattle.endpoint.specs.declared.Created.{Created}
+use Rattle.endpoint.specs.Step.{bookOf, Creates}
 use Rattle.trace_read.specs.declared.Configured.{Configured}
 use Rattle.trace_read.specs.Configuring.{isCodecLine, codecIn, generalIn}
 use Rattle.trace_read.specs.Meaning.{configuredBy, Configures}
@@ -29,13 +28,13 @@ use Rattle.trace_write.specs.Lines.{headerLine, refusedLine}
 use Rattle.trace.specs.declared.Phase.the-variants as phase
 use Rattle.trace.specs.declared.Session.{Session}
 use Rattle.trace.specs.declared.Stepped.{Stepped}
-use Rattle.trace.specs.Trace.{Line, configuring, ran, silent, refusing, going, behind, begun, wholly, stepped, ending}
+use Rattle.trace.specs.Trace.{TraceLine, configuring, ran, silent, refusing, going, printedAfter, begun, wholly, stepped, ending}
 use Rattle.trace.specs.Meaning.{traceIn, traceBy, Begins, Does, Goes, Keeps, Unused}
 
-pub begins-is : (g : Configured) (z : Option Configuration) (o : Opening) → Configures true z g → Opens (g .config) o
+pub begins-is : (g : Configured) (z : Option Configuration) (o : Created) → Configures true z g → Creates (g .config) o
     → Begins (record { phase = phase.Start; number = 0; endpoint = o .endpoint })
 unfolding traceIn
-begins-is g z o c h = record { is = refl; inside = rw (h .config) (c .inside refl) }
+begins-is g z o c h = record { is = refl; inside = rw (h .endpoint) (c .inside refl) }
 
 pub kept-is : (c : Config) (e : Endpoint) (at : ℕ) → Unused c e → Keeps (configInside c) (configurationBy c) at (record { session = record { phase = phase.Configuring; number = 0; endpoint = e }; at = at })
 unfolding going silent traceIn
@@ -81,16 +80,16 @@ module _ (b : Bool) (out : List ℕ) (at : ℕ) (r : Stepped) (whole : Bool) (z 
 pub ruleset configures = (whole-kept, whole-added, whole-refused, part-refused)
 
 -- ---- the first event
-pub begun-is : (c : Config) (e : Endpoint) (l : Line) (room room′ out g out′ : List ℕ) (at k : ℕ) (d : Bool) (r : Stepped) → Unused c e
+pub begun-is : (c : Config) (e : Endpoint) (l : TraceLine) (room room′ out g out′ : List ℕ) (at k : ℕ) (d : Bool) (r : Stepped) → Unused c e
     → Does (configInside (e .config)) (ran d (configurationBy (e .config)) (bookOf e) 0 l room) room′ g out′ k r → Appends out at headerLine k g
-    → Does (configInside c) (behind headerLine (ran d (configurationBy c) idle 0 l room)) room′ out out′ at r
-unfolding behind
+    → Does (configInside c) (printedAfter headerLine (ran d (configurationBy c) idle 0 l room)) room′ out out′ at r
+unfolding printedAfter
 begun-is c e l room room′ out g out′ at k d r f x a =
     let y : Does (configInside c) (ran d (configurationBy c) idle 0 l room) room′ g out′ k r = rw (f .config, f .book) at x in
     record { session = y .session; printed = append-then out g out′ headerLine _ at k (r .at) (y .printed) a; lent = y .lent; inside = y .inside }
 
 -- ---- whether there is a codec
-first-known : (ks : List Codec) (e : Entry) → entryBy e ≡ entryIn ks 1 → e .known ≡ not (eqb (length ks) 0)
+first-known : (ks : List Codec) (e : FoundCodec) → foundBy e ≡ entryIn ks 1 → e .known ≡ not (eqb (length ks) 0)
 unfolding entryIn
 first-known [] e h = by-bool (e .known) _ (λ p. let z : some (codecBy (e .codec)) ≡ none = rw p at h in let y : _≡_ {A = ℕ} 0 1 = cc in absurd (omega arith)) (λ p. p)
 first-known (k ∷ ks) e h =
@@ -98,7 +97,7 @@ first-known (k ∷ ks) e h =
     (λ p. rw (ne-eqb (length (k ∷ ks)) 0 (λ q. omega arith)) p)
     (λ p. let z : none ≡ some k = rw p at h in let y : _≡_ {A = ℕ} 0 1 = cc in absurd (omega arith))
 
-pub codec-known : (c : Config) (e : Entry) → entryBy e ≡ entryIn (codecsBy c) 1 → e .known ≡ not (eqb (length (configurationBy c .codecs)) 0)
+pub codec-known : (c : Config) (e : FoundCodec) → foundBy e ≡ entryIn (codecsBy c) 1 → e .known ≡ not (eqb (length (configurationBy c .codecs)) 0)
 unfolding configurationBy
 codec-known c e h = first-known (codecsBy c) e h
 
@@ -111,7 +110,7 @@ not-false u true e h = refl
 not-false u false e h = let z : true ≡ false = sym e ∙ h in let y : _≡_ {A = ℕ} 0 1 = cc in absurd (omega arith)
 
 -- ---- a line behind the `G` line
-module _ (b : Bool) (c : Config) (l : Line) (room room′ out out′ : List ℕ) (at : ℕ) (d t : Bool) (r : Stepped) (e : t ≡ isCodecLine (l .text)) where
+module _ (b : Bool) (c : Config) (l : TraceLine) (room room′ out out′ : List ℕ) (at : ℕ) (d t : Bool) (r : Stepped) (e : t ≡ isCodecLine (l .text)) where
   pub codec-line : t ≡ true → Goes b (wholly (l .whole) (codecIn (configurationBy c) (l .text))) out out′ at r
       → Does b (stepped d (configuring (configurationBy c)) l room) room out out′ at r
   unfolding stepped
@@ -124,7 +123,7 @@ module _ (b : Bool) (c : Config) (l : Line) (room room′ out out′ : List ℕ)
         let z : isCodecLine (l .text) ≡ false = sym e ∙ h in
         rw (z, not-false u (eqb (length (configurationBy c .codecs)) 0) f n) (x room)
 
-    pub first-event : t ≡ false → u ≡ true → Does b (behind headerLine (ran d (configurationBy c) idle 0 l room)) room′ out out′ at r
+    pub first-event : t ≡ false → u ≡ true → Does b (printedAfter headerLine (ran d (configurationBy c) idle 0 l room)) room′ out out′ at r
         → Does b (stepped d (configuring (configurationBy c)) l room) room′ out out′ at r
     unfolding stepped begun
     first-event h n x =
@@ -146,7 +145,7 @@ module _ (c : Config) (u : Bool) (f : u ≡ not (eqb (length (configurationBy c 
 pub ruleset closings = (end-codecs, end-none)
 
 -- ---- a line, by how far the trace has come
-module _ (b : Bool) (s : Session) (l : Line) (room room′ out out′ : List ℕ) (at : ℕ) (d : Bool) (r : Stepped) where
+module _ (b : Bool) (s : Session) (l : TraceLine) (room room′ out out′ : List ℕ) (at : ℕ) (d : Bool) (r : Stepped) where
   pub step-start : s .phase ≡ phase.Start → Goes b (wholly (l .whole) (generalIn (l .text))) out out′ at r → Does b (stepped d (traceBy s) l room) room out out′ at r
   unfolding stepped traceIn
   step-start h x = rw h (x room)
@@ -161,7 +160,7 @@ module _ (b : Bool) (s : Session) (l : Line) (room room′ out out′ : List ℕ
   unfolding stepped traceIn
   step-running h x = rw h x
 
-pub step-stopped : (s : Session) (l : Line) (room out : List ℕ) (at : ℕ) (d : Bool) → s .phase ≡ phase.Stopped → Does (configInside (s .endpoint .config)) (stepped d (traceBy s) l room) room out out at (record { session = s; at = at })
+pub step-stopped : (s : Session) (l : TraceLine) (room out : List ℕ) (at : ℕ) (d : Bool) → s .phase ≡ phase.Stopped → Does (configInside (s .endpoint .config)) (stepped d (traceBy s) l room) room out out at (record { session = s; at = at })
 unfolding stepped silent traceIn
 step-stopped s l room out at d h = record { session = rw h; printed = rw h (appending.append-nil out at); lent = rw h; inside = λ b. b }
 

@@ -13,7 +13,7 @@ use borrow.Author.Tests.{le-leb, ltb-true, eqb-false}
 use Rattle.octets.specs.declared.Number.{Number}
 use Rattle.octets.specs.declared.Number.the-variants.{Value, Bad}
 use Rattle.octets.specs.Decimal.{allDigits, readNumber, onNumber}
-use Rattle.octets.specs.Split.{partOf}
+use Rattle.octets.specs.Split.{partAt}
 use Rattle.octets.proofs.CaseLaws.{by-bool}
 use Rattle.address.specs.declared.Address.{Address}
 use Rattle.address.specs.declared.Parsed.{Parsed}
@@ -23,7 +23,7 @@ use Rattle.configuration.specs.Configuration.{Codec, fixed, named, Configuratio
 use Rattle.trace_read.specs.Configuring.{hostIn, general, usable, timesOf, generalFields, generalOf, generalIn, rightly, payloadOf, codecOf, withCodec, addedTo, codecFor, codecIn, isCodecLine}
 use Rattle.trace_read.specs.Words.{fieldsOf, generalWord}
 use Rattle.trace_read.specs.Events.{led}
-use Rattle.trace.specs.Trace.{Trace, start, configuring, running, stopped, Line, judged, handled, lentTo, ran, silent, refusing, going, behind, begun, wholly, stepped}
+use Rattle.trace.specs.Trace.{Trace, start, configuring, running, stopped, TraceLine, judged, handled, lentTo, ran, silent, refusing, going, printedAfter, begun, wholly, stepped}
 use Rattle.trace.specs.declared.Phase.the-variants.{Running}
 use Rattle.trace.specs.declared.Session.{Session}
 use Rattle.trace.specs.declared.Stepped.{Stepped}
@@ -78,12 +78,12 @@ general-begun : (s : List ℕ) → Each Begun (generalIn s)
 unfolding generalOf generalFields timesOf
 general-begun s =
     each-cond Begun (eqb (length (fieldsOf s)) 7 && led generalWord (fieldsOf s)) _
-    (each-parsed Begun (hostIn (partOf 1 (fieldsOf s))) _
-    (λ own. each-number Begun (readNumber (partOf 2 (fieldsOf s))) _
-    (λ port. each-number Begun (readNumber (partOf 3 (fieldsOf s))) _
-    (λ least. each-number Begun (readNumber (partOf 4 (fieldsOf s))) _
-    (λ most. each-number Begun (readNumber (partOf 5 (fieldsOf s))) _
-    (λ t1. each-number Begun (readNumber (partOf 6 (fieldsOf s))) _
+    (each-parsed Begun (hostIn (partAt 1 (fieldsOf s))) _
+    (λ own. each-number Begun (readNumber (partAt 2 (fieldsOf s))) _
+    (λ port. each-number Begun (readNumber (partAt 3 (fieldsOf s))) _
+    (λ least. each-number Begun (readNumber (partAt 4 (fieldsOf s))) _
+    (λ most. each-number Begun (readNumber (partAt 5 (fieldsOf s))) _
+    (λ t1. each-number Begun (readNumber (partAt 6 (fieldsOf s))) _
     (λ t2. usable-begun own port least most t1 t2)))))))
 
 -- ---- a `K` line
@@ -118,7 +118,7 @@ each-elim c b (some k) h = added-begun c k b (h .holds k refl)
 
 codec-begun : (c : Configuration) (s : List ℕ) → Begun c → Each Begun (codecIn c s)
 unfolding codecFor
-codec-begun c s b = each-cond Begun (eqb (length (fieldsOf s)) 2) _ (each-elim c b (codecOf (partOf 1 (fieldsOf s))) (codec-right (partOf 1 (fieldsOf s))))
+codec-begun c s b = each-cond Begun (eqb (length (fieldsOf s)) 2) _ (each-elim c b (codecOf (partAt 1 (fieldsOf s))) (codec-right (partAt 1 (fieldsOf s))))
 
 -- ---- the configuration goes on, or the first event comes
 going-right : (room : List ℕ) (whole : Bool) (x : Option Configuration) → Each Begun x → Right (going room (wholly whole x) .next)
@@ -133,15 +133,15 @@ codecs-right c b h =
     let n : (length (c .codecs) ≡ 0 → ⊥) = eqb-false (length (c .codecs)) 0 h in
     rw (b .general, b .codecs, le-leb 1 (length (c .codecs)) (omega (arith, n)), le-leb (length (c .codecs)) mostCodecs (b .few))
 
-begun-right : (d : Bool) (c : Configuration) (l : Line) (room : List ℕ) → Begun c → Right (begun d c l room .next)
-unfolding begun behind refusing ran lentTo handled judged
+begun-right : (d : Bool) (c : Configuration) (l : TraceLine) (room : List ℕ) → Begun c → Right (begun d c l room .next)
+unfolding begun printedAfter refusing ran lentTo handled judged
 begun-right d c l room b =
     by-bool (eqb (length (c .codecs)) 0) _
     (λ h. rw h tt)
     (λ h. rw h (codecs-right c b h))
 
 -- ---- any line
-pub trace-right : (d : Bool) (t : Trace) (l : Line) (room : List ℕ) → Right t → Right (stepped d t l room .next)
+pub trace-right : (d : Bool) (t : Trace) (l : TraceLine) (room : List ℕ) → Right t → Right (stepped d t l room .next)
 unfolding stepped silent ran lentTo handled judged
 trace-right d start l room h = going-right room (l .whole) (generalIn (l .text)) (general-begun (l .text))
 trace-right d (configuring c) l room h =
@@ -156,7 +156,7 @@ trace-right d stopped l room h = tt
 pub begun-sound : (s : Session) → Begins s → Sound s
 begun-sound s h = record { right = rw (h .is) tt; inside = h .inside }
 
-pub step-sound : (s : Session) (d : Bool) (l : Line) (room room′ out out′ : List ℕ) (at : ℕ) (r : Stepped) → Sound s
+pub step-sound : (s : Session) (d : Bool) (l : TraceLine) (room room′ out out′ : List ℕ) (at : ℕ) (r : Stepped) → Sound s
     → Does (configInside (s .endpoint .config)) (stepped d (traceBy s) l room) room′ out out′ at r → Sound (r .session)
 step-sound s d l room room′ out out′ at r h x =
     record { right = rw (x .session) (trace-right d (traceBy s) l room (h .right)); inside = x .inside (h .inside) }

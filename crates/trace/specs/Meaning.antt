@@ -12,21 +12,20 @@ use Rattle.configuration.specs.declared.Config.{Config}
 use Rattle.configuration.specs.Configuration.{Configuration}
 use Rattle.configuration.specs.Meaning.{configurationBy, configInside}
 use Rattle.bearer.specs.Bearer.{Bearer}
-use Rattle.bearer.specs.Meaning.{bearerBy, heldIf}
+use Rattle.bearer.specs.Meaning.{bearerBy, bearerIf}
 use Rattle.endpoint.specs.declared.Endpoint.{Endpoint}
 use Rattle.endpoint.specs.declared.Answer.{Answer}
 use Rattle.endpoint.specs.declared.Reply.{Reply}
 use Rattle.endpoint.specs.declared.Reply.the-variants.{Refused, Done}
-use Rattle.endpoint.specs.Call.{eventOf}
 use Rattle.endpoint.specs.Rule.{Event}
-use Rattle.endpoint.specs.Step.{bookOf, Did}
+use Rattle.endpoint.specs.Step.{bookOf, Did, eventBy}
 use Rattle.trace.specs.declared.Phase.{Phase}
 use Rattle.trace.specs.declared.Phase.the-variants.{Start, Configuring, Running, Stopped}
 use Rattle.trace.specs.declared.events.Ready.{Ready}
 use Rattle.trace.specs.declared.events.Ready.the-variants as ready
 use Rattle.trace.specs.declared.Session.{Session}
 use Rattle.trace.specs.declared.Stepped.{Stepped}
-use Rattle.trace.specs.Trace.{Trace, start, configuring, running, stopped, Step, handled, going}
+use Rattle.trace.specs.Trace.{Trace, start, configuring, running, stopped, Effect, handled, going}
 
 unfoldable pub traceIn : Phase → ℕ → Endpoint → Trace
 traceIn Start n e = start
@@ -44,7 +43,7 @@ pub record Begins (r : Session) : Type 0 where
 
 -- The step x: r has the trace that it leaves, what it prints is appended to out at `at`, and the lent buffer holds what it leaves. No
 -- count or length of the configuration goes past its array, where b says that none did before.
-pub record Does (b : Bool) (x : Step) (room′ out out′ : List ℕ) (at : ℕ) (r : Stepped) : Type 0 where
+pub record Does (b : Bool) (x : Effect) (room′ out out′ : List ℕ) (at : ℕ) (r : Stepped) : Type 0 where
   pub session : traceBy (r .session) ≡ x .next
   pub printed : Appends out at (x .printed) (r .at) out′
   pub lent : room′ ≡ x .lent
@@ -76,7 +75,7 @@ writtenBy (Done s n w d) = w
 
 -- the bearer in force
 abbrev pub forceBy : Endpoint → Option Bearer
-forceBy e = heldIf (holdsAt (e .state)) (bearerBy (e .bearer))
+forceBy e = bearerIf (holdsAt (e .state)) (bearerBy (e .bearer))
 
 -- The event e was given to self with the first w octets of a buffer: these then are `front`, and the others stay.
 pub record DidFront (self : Endpoint) (e : Event) (w : ℕ) (room room′ : List ℕ) (r : Answer) : Type 0 where
@@ -86,5 +85,5 @@ pub record DidFront (self : Endpoint) (e : Event) (w : ℕ) (room room′ : List
 
 -- the event of a line, where f is the buffer that has the octets of a message
 unfoldable pub readyBy : List ℕ → Ready → Option Event
-readyBy f (ready.Event call len) = some (eventOf call (take len f))
+readyBy f (ready.Event call len) = some (eventBy call (take len f))
 readyBy f ready.Nothing = none

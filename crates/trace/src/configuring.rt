@@ -9,7 +9,7 @@ ghost use Rattle.book.specs.Book.{idle};
 ghost use Rattle.configuration.specs.Meaning.{configurationBy, configInside};
 ghost use Rattle.trace_read.specs.Configuring.{generalIn, codecIn};
 ghost use Rattle.trace_write.specs.Lines.{headerLine};
-ghost use Rattle.trace.specs.Trace.{configuring, ran, behind, wholly, stepped, ending};
+ghost use Rattle.trace.specs.Trace.{configuring, ran, printedAfter, wholly, stepped, ending};
 ghost use Rattle.trace.specs.Meaning.{Does, Goes, Keeps, Unused};
 use crate::Phase;
 use crate::Session;
@@ -114,7 +114,7 @@ impl Session {
         out: &mut [u8],
         at: usize,
     ) -> Stepped
-        ensures { λ r. ⌜ Does (configInside (self .endpoint .config)) (behind headerLine (ran detailed (configurationBy (self .endpoint .config)) idle 0 (record { text = now (line .entry); whole = whole }) (now (room .entry)))) (now (room .exit)) (now (out .entry)) (now (out .exit)) at r ⌝ }
+        ensures { λ r. ⌜ Does (configInside (self .endpoint .config)) (printedAfter headerLine (ran detailed (configurationBy (self .endpoint .config)) idle 0 (record { text = now (line .entry); whole = whole }) (now (room .entry)))) (now (room .exit)) (now (out .entry)) (now (out .exit)) at r ⌝ }
     {
         let before = self.endpoint;
         let config = before.config;

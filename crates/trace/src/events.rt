@@ -5,16 +5,16 @@ ghost use mathlib.Core.List.{[], _∷_, _++_};
 ghost use mathlib.Core.Option.{some};
 ghost use Prim.Native.Nat.{_≤_, _/_, min};
 ghost use lib.ListN.{length, take};
+ghost use Rattle.octets.specs.Text.{lf};
 ghost use Rattle.octets.specs.Append.{Appends};
 ghost use Rattle.book.specs.States.{holdsAt};
 ghost use Rattle.configuration.specs.Meaning.{configurationBy, configInside};
-ghost use Rattle.bearer.specs.Meaning.{bearerBy, heldIf};
-ghost use Rattle.endpoint.specs.Call.{eventOf};
-ghost use Rattle.endpoint.specs.Step.{bookOf};
+ghost use Rattle.bearer.specs.Meaning.{bearerBy, bearerIf};
+ghost use Rattle.endpoint.specs.Step.{bookOf, eventBy};
 ghost use Rattle.trace_read.specs.Words.{mostLine};
 ghost use Rattle.trace_read.specs.Events.{messageBy};
 ghost use Rattle.trace_write.specs.Detail.{detailText};
-ghost use Rattle.trace.specs.Trace.{lineText, handled, askedIn, following, ran};
+ghost use Rattle.trace.specs.Trace.{printedLine, handled, wholeEvent, following, ran};
 ghost use Rattle.trace.specs.Meaning.{Does, Passes, DidFront, readyBy, writtenBy, forceBy};
 use crate::Phase;
 use crate::Session;
@@ -23,7 +23,7 @@ use bearer::Bearer;
 use book::State;
 use book::holds;
 use endpoint::Answer;
-use endpoint::Call;
+use endpoint::Event;
 use endpoint::Endpoint;
 use endpoint::Reply;
 use notation::read_octets;
@@ -45,7 +45,7 @@ const MOST_MESSAGE: usize = MOST_LINE / 2;
 // What a line asks of the endpoint, with a message's digits read.
 enum Ready {
     // An event. The octets of a message, len of them, stand at the front of a buffer.
-    Event { call: Call, len: usize },
+    Event { event: Event, len: usize },
     Nothing,
 }
 
@@ -64,17 +64,17 @@ fn written_by(reply: Reply) -> usize
     }
 }
 
-// Gives an event to the endpoint, with the first w octets of room. The message m counts for `Call::Message` alone.
-fn give(endpoint: Endpoint, call: Call, m: &[u8], room: &mut [u8], w: usize) -> Answer
+// Gives an event to the endpoint, with the first w octets of room. The message m counts for `Event::Message` alone.
+fn give(endpoint: Endpoint, event: Event, m: &[u8], room: &mut [u8], w: usize) -> Answer
     requires { ⌜ w ≤ length (now room) ⌝ }
-    ensures { λ r. ⌜ DidFront endpoint (eventOf call (now (m .entry))) w (now (room .entry)) (now (room .exit)) r ⌝ }
+    ensures { λ r. ⌜ DidFront endpoint (eventBy event (now (m .entry))) w (now (room .entry)) (now (room .exit)) r ⌝ }
 {
-    endpoint.handle(call, m, &mut room[0..w])
+    endpoint.handle(event, m, &mut room[0..w])
 }
 
 // Appends the octets written and the bearer in force, where the trace is detailed.
 fn push_more(detailed: bool, s: &[u8], state: State, b: Bearer, out: &mut [u8], at: usize) -> usize
-    ensures { λ r. ⌜ Appends (now (out .entry)) at (cond detailed (detailText (now (s .entry)) (heldIf (holdsAt state) (bearerBy b))) []) r (now (out .exit)) ⌝ }
+    ensures { λ r. ⌜ Appends (now (out .entry)) at (cond detailed (detailText (now (s .entry)) (bearerIf (holdsAt state) (bearerBy b))) []) r (now (out .exit)) ⌝ }
 {
     if detailed {
         return push_detail(s, holds(state), b, out, at);
@@ -84,12 +84,12 @@ fn push_more(detailed: bool, s: &[u8], state: State, b: Bearer, out: &mut [u8], 
 
 // Appends what a detailed trace has more, and the LF.
 fn push_end(detailed: bool, s: &[u8], endpoint: Endpoint, out: &mut [u8], at: usize) -> usize
-    ensures { λ r. ⌜ Appends (now (out .entry)) at (cond detailed (detailText (now (s .entry)) (forceBy endpoint)) [] ++ (10 ∷ [])) r (now (out .exit)) ⌝ }
+    ensures { λ r. ⌜ Appends (now (out .entry)) at (cond detailed (detailText (now (s .entry)) (forceBy endpoint)) [] ++ (lf ∷ [])) r (now (out .exit)) ⌝ }
 {
     let state = endpoint.state;
     let b = endpoint.bearer;
     let k = push_more(detailed, s, state, b, out, at);
-    push_octet(10, out, k)
+    push_octet(b'\n', out, k)
 }
 
 // Line n, which is no event.
@@ -112,7 +112,7 @@ fn pass(endpoint: Endpoint, n: u64, detailed: bool, out: &mut [u8], at: usize) -
 // Appends line n, where the event has given this answer and its octets are in room. State is the one before it.
 fn push_answer(
     n: u64,
-    call: Call,
+    event: Event,
     state: State,
     answer: Answer,
     detailed: bool,
@@ -120,11 +120,11 @@ fn push_answer(
     out: &mut [u8],
     at: usize,
 ) -> usize
-    ensures { λ r. ⌜ Appends (now (out .entry)) at (lineText detailed n (some (eventOf call [])) state (answer .reply) (take (writtenBy (answer .reply)) (now (room .entry))) (forceBy (answer .endpoint))) r (now (out .exit)) ⌝ }
+    ensures { λ r. ⌜ Appends (now (out .entry)) at (printedLine detailed n (some (eventBy event [])) state (answer .reply) (take (writtenBy (answer .reply)) (now (room .entry))) (forceBy (answer .endpoint))) r (now (out .exit)) ⌝ }
 {
     let reply = answer.reply;
     let endpoint = answer.endpoint;
-    let k = push_event(n, call, state, reply, out, at);
+    let k = push_event(n, event, state, reply, out, at);
     push_end(detailed, up_to(room, written_by(reply)), endpoint, out, k)
 }
 
@@ -133,19 +133,19 @@ fn handle(
     endpoint: Endpoint,
     n: u64,
     detailed: bool,
-    call: Call,
+    event: Event,
     m: &[u8],
     room: &mut [u8],
     wanted: usize,
     out: &mut [u8],
     at: usize,
 ) -> Stepped
-    ensures { λ r. ⌜ Does (configInside (endpoint .config)) (handled detailed (configurationBy (endpoint .config)) (bookOf endpoint) n (some (eventOf call (now (m .entry)))) (now (room .entry)) (min wanted (length (now (room .entry))))) (now (room .exit)) (now (out .entry)) (now (out .exit)) at r ⌝ }
+    ensures { λ r. ⌜ Does (configInside (endpoint .config)) (handled detailed (configurationBy (endpoint .config)) (bookOf endpoint) n (some (eventBy event (now (m .entry)))) (now (room .entry)) (min wanted (length (now (room .entry))))) (now (room .exit)) (now (out .entry)) (now (out .exit)) at r ⌝ }
 {
     let state = endpoint.state;
     let w = smaller(wanted, room.len());
-    let answer = give(endpoint, call, m, room, w);
-    let k = push_answer(n, call, state, answer, detailed, room, out, at);
+    let answer = give(endpoint, event, m, room, w);
+    let k = push_answer(n, event, state, answer, detailed, room, out, at);
     let left = answer.endpoint;
     Stepped {
         session: Session {
@@ -164,7 +164,7 @@ fn read_message(t: &[u8], octets: &mut [u8]) -> Ready
 {
     if read_octets(t, octets) {
         return Ready::Event {
-            call: Call::Message,
+            event: Event::Message,
             len: t.len() / 2,
         };
     }
@@ -175,12 +175,12 @@ fn read_message(t: &[u8], octets: &mut [u8]) -> Ready
 // at the front of octets.
 fn read_line(s: &[u8], whole: bool, octets: &mut [u8]) -> Ready
     requires { ⌜ mostLine / 2 ≤ length (now octets) ⌝ }
-    ensures { λ r. ⌜ readyBy (now (octets .exit)) r ≡ askedIn whole (now (s .entry)) ⌝ }
+    ensures { λ r. ⌜ readyBy (now (octets .exit)) r ≡ wholeEvent whole (now (s .entry)) ⌝ }
 {
     if whole {
         let x = read_event(s);
         return match x {
-            Asked::Event(call) => Ready::Event { call, len: 0 },
+            Asked::Event(event) => Ready::Event { event, len: 0 },
             Asked::Digits => read_message(after(s, 2), octets),
             Asked::Nothing => Ready::Nothing,
         };
@@ -214,12 +214,12 @@ impl Session {
         let lent = lend(detailed, line);
         let n = next_number(self.number);
         let mut octets = [0u8; MOST_MESSAGE];
-        let Ready::Event { call, len } = read_line(after(line, lent.at), whole, &mut octets) else {
+        let Ready::Event { event, len } = read_line(after(line, lent.at), whole, &mut octets) else {
             let endpoint = self.endpoint;
             return pass(endpoint, n, detailed, out, at);
         };
         let m = up_to(&octets, len);
         let endpoint = self.endpoint;
-        handle(endpoint, n, detailed, call, m, room, lent.room, out, at)
+        handle(endpoint, n, detailed, event, m, room, lent.room, out, at)
     }
 }

@@ -15,15 +15,15 @@ use Rattle.octets.specs.declared.Number.{Number}
 use Rattle.octets.specs.declared.Number.the-variants.{Value, Bad}
 use Rattle.octets.specs.Append.{put, Appends}
 use Rattle.octets.specs.Decimal.{allDigits, shortest, readNumber, onNumber}
-use Rattle.octets.specs.Split.{splitOn, partOf, separatorsOf}
+use Rattle.octets.specs.Split.{splitOn, partAt, separatorsOf}
 use Rattle.octets.specs.Words.{digitRun}
 use Rattle.octets.proofs.AppendLaws.{append-room}
 use Rattle.configuration.specs.declared.Codec.{Codec as Place}
 use Rattle.configuration.specs.declared.Config.{Config}
-use Rattle.configuration.specs.declared.Entry.{Entry}
+use Rattle.configuration.specs.declared.FoundCodec.{FoundCodec}
 use Rattle.configuration.specs.declared.Format.the-variants.{Payload, Named}
 use Rattle.configuration.specs.Configuration.{Codec, named, rightCodec, mostName, mostCodecs}
-use Rattle.configuration.specs.Meaning.{formatBy, codecBy, codecsBy, configurationBy, formatInside, allInside, configInside}
+use Rattle.configuration.specs.Meaning.{formatBy, codecBy, codecsBy, configurationBy, formatInside, allFormatsInside, configInside}
 use Rattle.configuration.proofs.EntryLaws.{length-codecs}
 use Rattle.trace_read.specs.declared.Configured.{Configured}
 use Rattle.trace_read.specs.Configuring.{rightly, payloadOf, codecOf, withCodec, addedTo, codecFor}
@@ -36,11 +36,11 @@ found-none k = record { is = refl; inside = λ h. absurd (let y : _≡_ {A = ℕ
 
 -- ---- a payload
 module _ (t : List ℕ) (x : Number) (e : x ≡ readNumber t) where
-  pub payload-bad : (r : Entry) → x ≡ Bad → Finds none r → Finds (payloadOf t) r
+  pub payload-bad : (r : FoundCodec) → x ≡ Bad → Finds none r → Finds (payloadOf t) r
   unfolding payloadOf onNumber
   payload-bad r q f = record { is = rw (← e, q) (f .is); inside = f .inside }
 
-  pub payload-large : (r : Entry) (n : ℕ) → x ≡ Value n → 95 < n → Finds none r → Finds (payloadOf t) r
+  pub payload-large : (r : FoundCodec) (n : ℕ) → x ≡ Value n → 95 < n → Finds none r → Finds (payloadOf t) r
   unfolding payloadOf onNumber rightly rightCodec
   payload-large r n q l f = record { is = rw (← e, q, lt-leb n 95 l) (f .is); inside = f .inside }
 
@@ -51,7 +51,7 @@ module _ (t : List ℕ) (x : Number) (e : x ≡ readNumber t) where
 pub ruleset payloads = (payload-bad, payload-large, payload-is)
 
 -- ---- a name
-pub name-long : (t : List ℕ) (r : Entry) → mostName < length t → Finds none r → Finds (rightly (named t)) r
+pub name-long : (t : List ℕ) (r : FoundCodec) → mostName < length t → Finds none r → Finds (rightly (named t)) r
 unfolding rightly rightCodec
 name-long t r l f = record { is = rw (lt-leb (length t) mostName l, and-false (leb 1 (length t))) (f .is); inside = f .inside }
 
@@ -80,7 +80,7 @@ none-run (b ∷ bs) d =
     let k : allDigits (b ∷ bs) ≡ false = rw (lt-ltb 0 (length (b ∷ bs)) (omega arith)) at d in
     rw k
 
-module _ (t : List ℕ) (r : Entry) (u : Bool) (e : u ≡ digitRun t) where
+module _ (t : List ℕ) (r : FoundCodec) (u : Bool) (e : u ≡ digitRun t) where
   pub codec-payload : u ≡ true → Finds (payloadOf t) r → Finds (codecOf t) r
   unfolding codecOf digitRun
   codec-payload q f =
@@ -93,15 +93,15 @@ module _ (t : List ℕ) (r : Entry) (u : Bool) (e : u ≡ digitRun t) where
 pub ruleset eithers = (codec-payload, codec-name)
 
 -- the codec in a field
-pub codec-field : (p s : List ℕ) (r : Entry) → p ≡ partOf 1 (splitOn 9 s) → Finds (codecOf p) r → Finds (codecOf (partOf 1 (splitOn 9 s))) r
+pub codec-field : (p s : List ℕ) (r : FoundCodec) → p ≡ partAt 1 (splitOn 9 s) → Finds (codecOf p) r → Finds (codecOf (partAt 1 (splitOn 9 s))) r
 codec-field p s r e f = rw (← e) f
 
 -- ---- one entry more
-inside-snoc : (ks : List Place) (k : Place) → allInside ks ≡ true → formatInside (k .format) ≡ true → allInside (ks ++ (k ∷ [])) ≡ true
-unfolding allInside
+inside-snoc : (ks : List Place) (k : Place) → allFormatsInside ks ≡ true → formatInside (k .format) ≡ true → allFormatsInside (ks ++ (k ∷ [])) ≡ true
+unfolding allFormatsInside
 inside-snoc [] k h f = rw f
 inside-snoc (j ∷ ks) k h f =
-    let (a, b) = and-eq-true-iff (formatInside (j .format)) (allInside ks) .0 h in
+    let (a, b) = and-eq-true-iff (formatInside (j .format)) (allFormatsInside ks) .0 h in
     rw (a, inside-snoc ks k b f)
 
 module _ (c : Config) {X : Type 0} (g : Place → X) (w : length (map g (c .codecs)) ≡ 8) where
@@ -133,8 +133,8 @@ module _ (c : Config) {X : Type 0} (g : Place → X) (w : length (map g (c .code
       record {
         is = rw (lt-ltb (length (map codecBy (take (c .count) (c .codecs)))) 8 (omega (arith, length-map (take (c .count) (c .codecs)) codecBy, length-take (c .count) (c .codecs))), add-one, take-suc-set (c .codecs) (c .count) k l, map-append);
         inside = λ b.
-            let (x, f) = and-eq-true-iff (leb (c .count) mostCodecs && allInside (take (c .count) (c .codecs))) (formatInside (k .format)) .0 b in
-            let (_, y) = and-eq-true-iff (leb (c .count) mostCodecs) (allInside (take (c .count) (c .codecs))) .0 x in
+            let (x, f) = and-eq-true-iff (leb (c .count) mostCodecs && allFormatsInside (take (c .count) (c .codecs))) (formatInside (k .format)) .0 b in
+            let (_, y) = and-eq-true-iff (leb (c .count) mostCodecs) (allFormatsInside (take (c .count) (c .codecs))) .0 x in
             rw (le-leb (c .count + 1) mostCodecs (omega arith), add-one, take-suc-set (c .codecs) (c .count) k l) (inside-snoc (take (c .count) (c .codecs)) k y f);
       }
 
@@ -146,8 +146,8 @@ module _ (c : Config) (s : List ℕ) (r : Configured) (n : ℕ) (q : n ≡ separ
   unfolding codecFor
   line-fields k f = let l = fields-are s n q in failed (configInside c) _ r f (λ h. rw (ne-eqb (length (splitOn 9 s)) 2 (λ e. k (omega arith))) h)
 
-  module _ (x : Entry) (e : Finds (codecOf (partOf 1 (splitOn 9 s))) x) where
-    known-is : (b : Bool) → x .known ≡ b → cond b (some (codecBy (x .codec))) none ≡ codecOf (partOf 1 (splitOn 9 s))
+  module _ (x : FoundCodec) (e : Finds (codecOf (partAt 1 (splitOn 9 s))) x) where
+    known-is : (b : Bool) → x .known ≡ b → cond b (some (codecBy (x .codec))) none ≡ codecOf (partAt 1 (splitOn 9 s))
     known-is b h = let i = e .is in rw h at i
 
     pub line-codec : n ≡ 1 → x .known ≡ true → Configures (configInside c && formatInside (x .codec .format)) (addedTo (configurationBy c) (codecBy (x .codec))) r

@@ -12,7 +12,7 @@ use borrow.Author.Tests.{le-leb, lt-leb, eq-eqb, ne-eqb}
 use Rattle.octets.specs.declared.Number.{Number}
 use Rattle.octets.specs.declared.Number.the-variants.{Value, Bad}
 use Rattle.octets.specs.Decimal.{readNumber, onNumber}
-use Rattle.octets.specs.Split.{splitOn, partOf, separatorsOf}
+use Rattle.octets.specs.Split.{splitOn, partAt, separatorsOf}
 use Rattle.octets.specs.Words.{same}
 use Rattle.octets.proofs.CaseLaws.{by-le}
 use Rattle.address.specs.declared.Address.{Address}
@@ -24,15 +24,15 @@ use Rattle.address.specs.Ipv6.{readV6}
 use Rattle.configuration.specs.declared.Codec.{Codec as Place}
 use Rattle.configuration.specs.declared.Config.{Config}
 use Rattle.configuration.specs.Configuration.{Configuration, rightTimes, rightGeneral}
-use Rattle.configuration.specs.Meaning.{codecsBy, configurationBy, allInside, configInside}
+use Rattle.configuration.specs.Meaning.{codecsBy, configurationBy, allFormatsInside, configInside}
 use Rattle.trace_read.specs.declared.Configured.{Configured}
 use Rattle.trace_read.specs.declared.configure.Small.{Small}
 use Rattle.trace_read.specs.declared.configure.Small.the-variants as small
-use Rattle.trace_read.specs.declared.configure.Four.{Four}
-use Rattle.trace_read.specs.declared.configure.Four.the-variants as four
+use Rattle.trace_read.specs.declared.configure.FourNumbers.{FourNumbers}
+use Rattle.trace_read.specs.declared.configure.FourNumbers.the-variants as four
 use Rattle.trace_read.specs.Configuring.{hostIn, general, usable, timesOf, generalFields, generalOf}
 use Rattle.trace_read.specs.Meaning.{configuredBy, Configures, Fails}
-use Rattle.trace_read.specs.Steps.{smallOf, onSmall, fourOf}
+use Rattle.trace_read.specs.Steps.{smallOf, onSmall, fourNumbers}
 use Rattle.trace_read.proofs.FieldLaws.{fields-are}
 
 pub wrong-is : (c : Config) → configInside c ≡ true → Fails (record { right = false; config = c })
@@ -42,7 +42,7 @@ wrong-is c i = record { is = refl; inside = i }
 -- nothing counts in a configuration of no codecs
 pub none-inside : (own : Address) (port least most t1 t2 : ℕ) (ks : List Place)
     → configInside (record { own = own; port = port; least = least; most = most; t1 = t1; t2 = t2; count = 0; codecs = ks }) ≡ true
-unfolding configInside allInside
+unfolding configInside allFormatsInside
 none-inside own port least most t1 t2 ks = refl
 
 -- none is what x is
@@ -97,7 +97,7 @@ pub general-is : (own : Address) (port least most t1 t2 : ℕ) (ks : List Place)
     → t ≡ rightGeneral (configurationBy (record { own = own; port = port; least = least; most = most; t1 = t1; t2 = t2; count = 0; codecs = ks }))
     → Configures true (usable (general own port least most t1 t2))
     (record { right = t; config = record { own = own; port = port; least = least; most = most; t1 = t1; t2 = t2; count = 0; codecs = ks } })
-unfolding configuredBy usable general configurationBy codecsBy configInside allInside
+unfolding configuredBy usable general configurationBy codecsBy configInside allFormatsInside
 general-is own port least most t1 t2 ks t e = record { is = rw e; inside = λ h. refl }
 
 -- ---- the numbers behind the address and the port
@@ -141,7 +141,7 @@ unfolding onNumber
 rest-bad (Value n) f bad h = h n
 rest-bad Bad f bad h = refl
 
-onFour : {X : Type 0} → Four → (ℕ → ℕ → ℕ → ℕ → X) → X → X
+onFour : {X : Type 0} → FourNumbers → (ℕ → ℕ → ℕ → ℕ → X) → X → X
 onFour (four.Numbers a b c d) go bad = go a b c d
 onFour four.Wrong go bad = bad
 
@@ -159,22 +159,22 @@ module _ (own : Address) (port : ℕ) (ps : List (List ℕ)) where
   all : ℕ → ℕ → ℕ → ℕ → Option Configuration
   all a b c d = usable (general own port a b c d)
 
-  times-four : timesOf own port ps ≡ onFour (fourOf ps) all none
-  unfolding timesOf fourOf all
+  times-four : timesOf own port ps ≡ onFour (fourNumbers ps) all none
+  unfolding timesOf fourNumbers all
   times-four =
-      small-step (partOf 3 ps) _ _ none
-      (λ a h. rest-bad (readNumber (partOf 4 ps)) _ none
-      (λ b. rest-bad (readNumber (partOf 5 ps)) _ none
-      (λ c. rest-bad (readNumber (partOf 6 ps)) _ none (λ d. not-right own port a b c d (not-times own port a b c d (large-least a b h))))))
-      (λ a. small-step (partOf 4 ps) _ _ none
-      (λ b h. rest-bad (readNumber (partOf 5 ps)) _ none
-      (λ c. rest-bad (readNumber (partOf 6 ps)) _ none (λ d. not-right own port a b c d (not-times own port a b c d (large-most a b h)))))
-      (λ b. small-step (partOf 5 ps) _ _ none
-      (λ c h. rest-bad (readNumber (partOf 6 ps)) _ none (λ d. not-right own port a b c d (not-t1 own port a b c d h)))
-      (λ c. small-step (partOf 6 ps) _ _ none (λ d h. not-right own port a b c d (not-t2 own port a b c d h)) (λ d. refl))))
-      ∙ four-is (smallOf (partOf 3 ps)) (smallOf (partOf 4 ps)) (smallOf (partOf 5 ps)) (smallOf (partOf 6 ps)) all none
+      small-step (partAt 3 ps) _ _ none
+      (λ a h. rest-bad (readNumber (partAt 4 ps)) _ none
+      (λ b. rest-bad (readNumber (partAt 5 ps)) _ none
+      (λ c. rest-bad (readNumber (partAt 6 ps)) _ none (λ d. not-right own port a b c d (not-times own port a b c d (large-least a b h))))))
+      (λ a. small-step (partAt 4 ps) _ _ none
+      (λ b h. rest-bad (readNumber (partAt 5 ps)) _ none
+      (λ c. rest-bad (readNumber (partAt 6 ps)) _ none (λ d. not-right own port a b c d (not-times own port a b c d (large-most a b h)))))
+      (λ b. small-step (partAt 5 ps) _ _ none
+      (λ c h. rest-bad (readNumber (partAt 6 ps)) _ none (λ d. not-right own port a b c d (not-t1 own port a b c d h)))
+      (λ c. small-step (partAt 6 ps) _ _ none (λ d h. not-right own port a b c d (not-t2 own port a b c d h)) (λ d. refl))))
+      ∙ four-is (smallOf (partAt 3 ps)) (smallOf (partAt 4 ps)) (smallOf (partAt 5 ps)) (smallOf (partAt 6 ps)) all none
 
-  module _ (r : Configured) (y : Four) (e : y ≡ fourOf ps) where
+  module _ (r : Configured) (y : FourNumbers) (e : y ≡ fourNumbers ps) where
     pub times-are : (a b c d : ℕ) → y ≡ four.Numbers a b c d → Configures true (usable (general own port a b c d)) r → Configures true (timesOf own port ps) r
     unfolding onFour all
     times-are a b c d q f = same-configured true _ _ r f (λ h. rw (times-four, ← e, q) h)
@@ -186,12 +186,12 @@ module _ (own : Address) (port : ℕ) (ps : List (List ℕ)) where
 pub ruleset times = (times-are, times-none)
 
 -- ---- the fields
-module _ (ps : List (List ℕ)) (r : Configured) (a : Parsed) (e : a ≡ hostIn (partOf 1 ps)) where
+module _ (ps : List (List ℕ)) (r : Configured) (a : Parsed) (e : a ≡ hostIn (partAt 1 ps)) where
   pub fields-host : a ≡ Unreadable → Fails r → Configures true (generalFields ps) r
   unfolding generalFields onParsed
   fields-host q f = failed true _ r f (λ h. rw (← e, q) h)
 
-  module _ (own : Address) (q : a ≡ Unicast own) (b : Number) (k : b ≡ readNumber (partOf 2 ps)) where
+  module _ (own : Address) (q : a ≡ Unicast own) (b : Number) (k : b ≡ readNumber (partAt 2 ps)) where
     pub fields-port : b ≡ Bad → Fails r → Configures true (generalFields ps) r
     unfolding generalFields onParsed onNumber
     fields-port p f = failed true _ r f (λ h. rw (← e, q, ← k, p) h)
@@ -208,7 +208,7 @@ module _ (s : List ℕ) (r : Configured) where
   unfolding generalOf
   general-few n c k f = let l = fields-are s n c in failed true _ r f (λ h. rw (ne-eqb (length (splitOn 9 s)) 7 (λ e. k (omega arith))) h)
 
-  module _ (p : List ℕ) (t : Bool) (e : p ≡ partOf 0 (splitOn 9 s)) (g : t ≡ same (71 ∷ []) p) where
+  module _ (p : List ℕ) (t : Bool) (e : p ≡ partAt 0 (splitOn 9 s)) (g : t ≡ same (71 ∷ []) p) where
     pub general-other : t ≡ false → Fails r → Configures true (generalOf (splitOn 9 s)) r
     unfolding generalOf
     general-other q f = failed true _ r f (λ h. rw (← e, ← g, q, and-false (eqb (length (splitOn 9 s)) 7)) h)

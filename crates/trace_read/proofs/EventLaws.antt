@@ -13,19 +13,19 @@ use Rattle.octets.specs.declared.Number.{Number}
 use Rattle.octets.specs.declared.Number.the-variants.{Value, Bad}
 use Rattle.octets.specs.Decimal.{readNumber, onNumber}
 use Rattle.octets.specs.Hex.{isHexDigit, allHex, isHex}
-use Rattle.octets.specs.Split.{has, before, onFirst, splitOn, partOf, separatorsOf}
+use Rattle.octets.specs.Split.{has, before, onFirst, splitOn, partAt, separatorsOf}
 use Rattle.octets.specs.Words.{begins, same}
 use Rattle.octets.proofs.CaseLaws.{by-eq, by-bool}
 use Rattle.octets.proofs.SplitLaws.{split-some, split-dot, has-before, split-whole}
-use Rattle.endpoint.specs.declared.Call.the-variants.{SetUp, Change, Release, T1, T2}
+use Rattle.endpoint.specs.declared.Event.the-variants.{SetUp, Change, Release, T1, T2}
 use Rattle.endpoint.specs.Rule.{Event, setUp, change}
 use Rattle.trace_read.specs.declared.Asked.{Asked}
 use Rattle.trace_read.specs.declared.Asked.the-variants.{Event as Named, Digits, Nothing}
-use Rattle.trace_read.specs.declared.events.Three.{Three}
-use Rattle.trace_read.specs.declared.events.Three.the-variants.{Numbers, Wrong}
-use Rattle.trace_read.specs.Events.{bareOf, messageOf, numbersOf, commandOf, eventOf, eventIn, messageBy}
+use Rattle.trace_read.specs.declared.events.ThreeNumbers.{ThreeNumbers}
+use Rattle.trace_read.specs.declared.events.ThreeNumbers.the-variants.{Numbers, Wrong}
+use Rattle.trace_read.specs.Events.{bareOf, messageOf, commandNumbers, commandOf, fieldsEvent, lineEvent, messageBy}
 use Rattle.trace_read.specs.Meaning.{askedBy, Asks}
-use Rattle.trace_read.specs.Steps.{threeOf}
+use Rattle.trace_read.specs.Steps.{threeNumbers}
 use Rattle.trace_read.specs.Words.{mostLine}
 use Rattle.trace_read.proofs.FieldLaws.{fields-are}
 
@@ -34,7 +34,7 @@ never : {X : Type 0} → true ≡ false → X
 never e = let z : _≡_ {A = ℕ} 0 1 = cc in absurd (omega arith)
 
 -- ---- a command's numbers
-onThree : {X : Type 0} → Three → (ℕ → ℕ → ℕ → X) → X → X
+onThree : {X : Type 0} → ThreeNumbers → (ℕ → ℕ → ℕ → X) → X → X
 onThree (Numbers a b c) go bad = go a b c
 onThree Wrong go bad = bad
 
@@ -47,38 +47,38 @@ three-is (Value a) (Value b) Bad f = refl
 three-is (Value a) Bad z f = refl
 three-is Bad y z f = refl
 
-module _ (m : List ℕ) (ps : List (List ℕ)) (y : Three) (e : y ≡ threeOf ps) where
-  numbers-are : (f : ℕ → ℕ → ℕ → Event) → numbersOf f ps ≡ onThree y (λ a b c. some (f a b c)) none
-  unfolding numbersOf threeOf
-  numbers-are f = three-is (readNumber (partOf 1 ps)) (readNumber (partOf 2 ps)) (readNumber (partOf 3 ps)) f ∙ rw e
+module _ (m : List ℕ) (ps : List (List ℕ)) (y : ThreeNumbers) (e : y ≡ threeNumbers ps) where
+  numbers-are : (f : ℕ → ℕ → ℕ → Event) → commandNumbers f ps ≡ onThree y (λ a b c. some (f a b c)) none
+  unfolding commandNumbers threeNumbers
+  numbers-are f = three-is (readNumber (partAt 1 ps)) (readNumber (partAt 2 ps)) (readNumber (partAt 3 ps)) f ∙ rw e
 
-  pub set-up-is : (a b c : ℕ) → y ≡ Numbers a b c → askedBy m (Named (SetUp a b c)) ≡ numbersOf setUp ps
+  pub set-up-is : (a b c : ℕ) → y ≡ Numbers a b c → askedBy m (Named (SetUp a b c)) ≡ commandNumbers setUp ps
   unfolding askedBy onThree
   set-up-is a b c q = rw (numbers-are setUp, q)
 
-  pub set-up-isnt : y ≡ Wrong → askedBy m Nothing ≡ numbersOf setUp ps
+  pub set-up-isnt : y ≡ Wrong → askedBy m Nothing ≡ commandNumbers setUp ps
   unfolding askedBy onThree
   set-up-isnt q = rw (numbers-are setUp, q)
 
-  pub change-is : (a b c : ℕ) → y ≡ Numbers a b c → askedBy m (Named (Change a b c)) ≡ numbersOf change ps
+  pub change-is : (a b c : ℕ) → y ≡ Numbers a b c → askedBy m (Named (Change a b c)) ≡ commandNumbers change ps
   unfolding askedBy onThree
   change-is a b c q = rw (numbers-are change, q)
 
-  pub change-isnt : y ≡ Wrong → askedBy m Nothing ≡ numbersOf change ps
+  pub change-isnt : y ≡ Wrong → askedBy m Nothing ≡ commandNumbers change ps
   unfolding askedBy onThree
   change-isnt q = rw (numbers-are change, q)
 
 pub ruleset commands = (set-up-is, set-up-isnt, change-is, change-isnt)
 
 -- ---- the word, which is p
-module _ (m p : List ℕ) (ps : List (List ℕ)) (e : p ≡ partOf 0 ps) where
+module _ (m p : List ℕ) (ps : List (List ℕ)) (e : p ≡ partAt 0 ps) where
   module _ (t : Bool) (r : t ≡ same (85 ∷ []) p) where
-    pub command-set-up : (x : Asked) → t ≡ true → askedBy m x ≡ numbersOf setUp ps → askedBy m x ≡ commandOf ps
+    pub command-set-up : (x : Asked) → t ≡ true → askedBy m x ≡ commandNumbers setUp ps → askedBy m x ≡ commandOf ps
     unfolding commandOf
     command-set-up x q h = rw (← e, ← r, q) h
 
     module _ (u : Bool) (k : u ≡ same (67 ∷ []) p) (q : t ≡ false) where
-      pub command-change : (x : Asked) → u ≡ true → askedBy m x ≡ numbersOf change ps → askedBy m x ≡ commandOf ps
+      pub command-change : (x : Asked) → u ≡ true → askedBy m x ≡ commandNumbers change ps → askedBy m x ≡ commandOf ps
       unfolding commandOf
       command-change x v h = rw (← e, ← r, q, ← k, v) h
 
@@ -128,8 +128,8 @@ hex-whole (b ∷ bs) h =
     (λ e. let z : isHexDigit 9 ≡ true = rw e at p in never (sym z))
     (λ e. rw (ne-eqb b 9 e, hex-whole bs q))
 
-message-one : (t : List ℕ) → eventOf ((77 ∷ []) ∷ t ∷ []) ≡ messageBy t
-unfolding eventOf messageOf same begins partOf
+message-one : (t : List ℕ) → fieldsEvent ((77 ∷ []) ∷ t ∷ []) ≡ messageBy t
+unfolding fieldsEvent messageOf same begins partAt
 message-one t = refl
 
 message-none : (t : List ℕ) → isHex t ≡ false → messageBy t ≡ none
@@ -137,28 +137,28 @@ unfolding messageBy
 message-none t h = rw h
 
 -- more fields than any event has
-event-many : (ps : List (List ℕ)) → 4 < length ps → eventOf ps ≡ none
-unfolding eventOf
+event-many : (ps : List (List ℕ)) → 4 < length ps → fieldsEvent ps ≡ none
+unfolding fieldsEvent
 event-many ps h =
     rw (ne-eqb (length ps) 1 (λ e. omega arith), ne-eqb (length ps) 2 (λ e. omega arith), ne-eqb (length ps) 4 (λ e. omega arith))
 
 -- three fields or more, the word that of messages
-message-many : (t : List ℕ) (ps : List (List ℕ)) → 0 < length ps → eventOf ((77 ∷ []) ∷ t ∷ ps) ≡ none
-unfolding eventOf commandOf same begins partOf
+message-many : (t : List ℕ) (ps : List (List ℕ)) → 0 < length ps → fieldsEvent ((77 ∷ []) ∷ t ∷ ps) ≡ none
+unfolding fieldsEvent commandOf same begins partAt
 message-many t [] h = absurd (omega arith)
 message-many t (a ∷ []) h = refl
 message-many t (a ∷ b ∷ []) h = refl
 message-many t (a ∷ b ∷ c ∷ ps) h = event-many ((77 ∷ []) ∷ t ∷ a ∷ b ∷ c ∷ ps) (omega arith)
 
 module _ (s : List ℕ) (b : begins (77 ∷ 9 ∷ []) s ≡ true) where
-  message-yes : isHex (drop 2 s) ≡ true → messageBy (drop 2 s) ≡ eventOf (splitOn 9 s)
+  message-yes : isHex (drop 2 s) ≡ true → messageBy (drop 2 s) ≡ fieldsEvent (splitOn 9 s)
   unfolding isHex
   message-yes h =
       let p = drop 2 s in
       let a : allHex p ≡ true = and-eq-true-iff (eqb (length p % 2) 0) (allHex p) .0 h .1 in
       rw (message-fields s b, hex-whole p a) (sym (message-one p))
 
-  message-no : isHex (drop 2 s) ≡ false → messageBy (drop 2 s) ≡ eventOf (splitOn 9 s)
+  message-no : isHex (drop 2 s) ≡ false → messageBy (drop 2 s) ≡ fieldsEvent (splitOn 9 s)
   message-no h =
       let p = drop 2 s in
       rw (message-fields s b)
@@ -166,13 +166,13 @@ module _ (s : List ℕ) (b : begins (77 ∷ 9 ∷ []) s ≡ true) where
       (λ k. let l = has-before 9 p k in rw (message-none p h, split-dot 9 p l) (sym (message-many (before 9 p) _ (split-some 9 _))))
       (λ k. rw (split-whole 9 p k) (sym (message-one p))))
 
-  message-is : messageBy (drop 2 s) ≡ eventOf (splitOn 9 s)
+  message-is : messageBy (drop 2 s) ≡ fieldsEvent (splitOn 9 s)
   message-is = by-bool (isHex (drop 2 s)) _ message-yes message-no
 
 -- ---- any other line
 -- with two fields the first is another word
-other-word : (s : List ℕ) → begins (77 ∷ 9 ∷ []) s ≡ false → length (splitOn 9 s) ≡ 2 → same (77 ∷ []) (partOf 0 (splitOn 9 s)) ≡ false
-unfolding begins same partOf splitOn onFirst
+other-word : (s : List ℕ) → begins (77 ∷ 9 ∷ []) s ≡ false → length (splitOn 9 s) ≡ 2 → same (77 ∷ []) (partAt 0 (splitOn 9 s)) ≡ false
+unfolding begins same partAt splitOn onFirst
 other-word [] b h = absurd (omega arith)
 other-word (x ∷ []) b h = by-eq x 9 _ (λ e. rw (eq-eqb x 9 e)) (λ e. let z : 1 ≡ 2 = rw (ne-eqb x 9 e) at h in absurd (omega arith))
 other-word (x ∷ y ∷ s) b h =
@@ -184,24 +184,24 @@ other-word (x ∷ y ∷ s) b h =
     (λ g. rw (ne-eqb x 9 e, eq-eqb y 9 f, ne-eqb x 77 g)))
     (λ f. rw (ne-eqb x 9 e, ne-eqb y 9 f) (long-word x y (splitOn 9 s))))
   where
-    long-word : (x y : ℕ) (ps : List (List ℕ)) → same (77 ∷ []) (partOf 0 (onFirst x (onFirst y ps))) ≡ false
+    long-word : (x y : ℕ) (ps : List (List ℕ)) → same (77 ∷ []) (partAt 0 (onFirst x (onFirst y ps))) ≡ false
     long-word x y [] = refl
     long-word x y (p ∷ ps) = rw (ne-eqb (length (x ∷ y ∷ p)) 1 (λ e. omega arith))
 
 module _ (s : List ℕ) (n : ℕ) (c : n ≡ separatorsOf 9 s) where
   module _ (m : List ℕ) where
-    pub other-bare : (x : Asked) → n ≡ 0 → askedBy m x ≡ bareOf (splitOn 9 s) → askedBy m x ≡ eventOf (splitOn 9 s)
-    unfolding eventOf
+    pub other-bare : (x : Asked) → n ≡ 0 → askedBy m x ≡ bareOf (splitOn 9 s) → askedBy m x ≡ fieldsEvent (splitOn 9 s)
+    unfolding fieldsEvent
     other-bare x h r = rw (eq-eqb (length (splitOn 9 s)) 1 (omega (arith, fields-are s n c))) r
 
-    pub other-command : (x : Asked) → n ≡ 3 → askedBy m x ≡ commandOf (splitOn 9 s) → askedBy m x ≡ eventOf (splitOn 9 s)
-    unfolding eventOf
+    pub other-command : (x : Asked) → n ≡ 3 → askedBy m x ≡ commandOf (splitOn 9 s) → askedBy m x ≡ fieldsEvent (splitOn 9 s)
+    unfolding fieldsEvent
     other-command x h r =
         let l = fields-are s n c in
         rw (ne-eqb (length (splitOn 9 s)) 1 (λ e. omega arith), ne-eqb (length (splitOn 9 s)) 2 (λ e. omega arith), eq-eqb (length (splitOn 9 s)) 4 (omega arith)) r
 
-    pub other-none : begins (77 ∷ 9 ∷ []) s ≡ false → (n ≡ 0 → ⊥) → (n ≡ 3 → ⊥) → askedBy m Nothing ≡ eventOf (splitOn 9 s)
-    unfolding eventOf messageOf askedBy
+    pub other-none : begins (77 ∷ 9 ∷ []) s ≡ false → (n ≡ 0 → ⊥) → (n ≡ 3 → ⊥) → askedBy m Nothing ≡ fieldsEvent (splitOn 9 s)
+    unfolding fieldsEvent messageOf askedBy
     other-none b h k =
         let l = fields-are s n c in
         rw (ne-eqb (length (splitOn 9 s)) 1 (λ e. h (omega arith)), ne-eqb (length (splitOn 9 s)) 4 (λ e. k (omega arith)))
@@ -214,15 +214,15 @@ pub ruleset others = (other-bare, other-command, other-none)
 -- ---- the line
 module _ (s : List ℕ) where
   pub event-long : mostLine ≤ length s → Asks s Nothing
-  unfolding eventIn askedBy
+  unfolding lineEvent askedBy
   event-long h = record { is = rw (le-ltb (length s) mostLine h); short = λ e. (let z : _≡_ {A = ℕ} 0 1 = cc in absurd (omega arith)) }
 
-  pub event-is : (x : Asked) → length s < mostLine → askedBy s x ≡ eventOf (splitOn 9 s) → Asks s x
-  unfolding eventIn
+  pub event-is : (x : Asked) → length s < mostLine → askedBy s x ≡ fieldsEvent (splitOn 9 s) → Asks s x
+  unfolding lineEvent
   event-is x h r = record { is = rw (lt-ltb (length s) mostLine h) r; short = λ e. h }
 
   pub event-digits : (t : Bool) → t ≡ begins (77 ∷ 9 ∷ []) s → t ≡ true → length s < mostLine → Asks s Digits
-  unfolding eventIn askedBy
+  unfolding lineEvent askedBy
   event-digits t e q h = record { is = rw (lt-ltb (length s) mostLine h) (message-is s (sym e ∙ q)); short = λ e. h }
 
 pub ruleset lines = (event-long, event-is, event-digits)

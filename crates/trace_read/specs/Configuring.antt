@@ -6,7 +6,7 @@ use mathlib.Core.Option.{Option, none, some, Option·elim}
 use lib.ListN.{length}
 use lib.Dec.{eqb, ltb}
 use Rattle.octets.specs.Decimal.{allDigits, readNumber, onNumber}
-use Rattle.octets.specs.Split.{partOf}
+use Rattle.octets.specs.Split.{partAt}
 use Rattle.address.specs.declared.Address.{Address}
 use Rattle.address.specs.declared.Parsed.{Parsed}
 use Rattle.address.specs.declared.Parsed.the-variants.{Unicast}
@@ -41,17 +41,17 @@ usable c = cond (rightGeneral c) (some c) none
 -- the numbers behind the address and the port
 unfoldable pub timesOf : Address → ℕ → List (List ℕ) → Option Configuration
 timesOf own port ps =
-    onNumber (readNumber (partOf 3 ps))
-    (λ least. onNumber (readNumber (partOf 4 ps))
-    (λ most. onNumber (readNumber (partOf 5 ps))
-    (λ t1. onNumber (readNumber (partOf 6 ps)) (λ t2. usable (general own port least most t1 t2)) none)
+    onNumber (readNumber (partAt 3 ps))
+    (λ least. onNumber (readNumber (partAt 4 ps))
+    (λ most. onNumber (readNumber (partAt 5 ps))
+    (λ t1. onNumber (readNumber (partAt 6 ps)) (λ t2. usable (general own port least most t1 t2)) none)
     none)
     none)
     none
 
 unfoldable pub generalFields : List (List ℕ) → Option Configuration
 generalFields ps =
-    onParsed (hostIn (partOf 1 ps)) (λ own. onNumber (readNumber (partOf 2 ps)) (λ port. timesOf own port ps) none) none
+    onParsed (hostIn (partAt 1 ps)) (λ own. onNumber (readNumber (partAt 2 ps)) (λ port. timesOf own port ps) none) none
 
 unfoldable pub generalOf : List (List ℕ) → Option Configuration
 generalOf ps = cond (eqb (length ps) 7 && led generalWord ps) (generalFields ps) none
@@ -88,7 +88,7 @@ unfoldable pub addedTo : Configuration → Codec → Option Configuration
 addedTo c k = cond (ltb (length (c .codecs)) mostCodecs) (some (withCodec c k)) none
 
 unfoldable pub codecFor : Configuration → List (List ℕ) → Option Configuration
-codecFor c ps = cond (eqb (length ps) 2) (Option·elim (codecOf (partOf 1 ps)) none (addedTo c)) none
+codecFor c ps = cond (eqb (length ps) 2) (Option·elim (codecOf (partAt 1 ps)) none (addedTo c)) none
 
 -- the line stands in the run of `K` lines, right or wrong
 abbrev pub isCodecLine : List ℕ → Bool

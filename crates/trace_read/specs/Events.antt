@@ -6,15 +6,15 @@ use mathlib.Core.Option.{Option, none, some}
 use lib.ListN.{length}
 use lib.Dec.{eqb, ltb}
 use Rattle.octets.specs.Decimal.{readNumber, onNumber}
-use Rattle.octets.specs.Hex.{isHex, octetsOf}
-use Rattle.octets.specs.Split.{partOf}
+use Rattle.octets.specs.Hex.{isHex, hexOctets}
+use Rattle.octets.specs.Split.{partAt}
 use Rattle.octets.specs.Words.{same}
 use Rattle.endpoint.specs.Rule.{Event, setUp, change, release, t1, t2, message}
 use Rattle.trace_read.specs.Words.{fieldsOf, mostLine, setUpWord, changeWord, releaseWord, t1Word, t2Word, messageWord}
 
 -- the first field is the word
 abbrev pub led : List ℕ → List (List ℕ) → Bool
-led word ps = same word (partOf 0 ps)
+led word ps = same word (partAt 0 ps)
 
 -- one field: a release or a timer
 unfoldable pub bareOf : List (List ℕ) → Option Event
@@ -25,31 +25,31 @@ bareOf ps =
 
 -- the message whose octets are the pairs of digits t
 unfoldable pub messageBy : List ℕ → Option Event
-messageBy t = cond (isHex t) (some (message (octetsOf t))) none
+messageBy t = cond (isHex t) (some (message (hexOctets t))) none
 
 -- two: a message
 unfoldable pub messageOf : List (List ℕ) → Option Event
-messageOf ps = cond (led messageWord ps) (messageBy (partOf 1 ps)) none
+messageOf ps = cond (led messageWord ps) (messageBy (partAt 1 ps)) none
 
 -- four: a command that names a codec entry, a payload and a packet time, each a number up to 65535 with no leading zero
-unfoldable pub numbersOf : (ℕ → ℕ → ℕ → Event) → List (List ℕ) → Option Event
-numbersOf command ps =
-    onNumber (readNumber (partOf 1 ps))
-    (λ entry. onNumber (readNumber (partOf 2 ps))
-    (λ payload. onNumber (readNumber (partOf 3 ps)) (λ ptime. some (command entry payload ptime)) none)
+unfoldable pub commandNumbers : (ℕ → ℕ → ℕ → Event) → List (List ℕ) → Option Event
+commandNumbers command ps =
+    onNumber (readNumber (partAt 1 ps))
+    (λ entry. onNumber (readNumber (partAt 2 ps))
+    (λ payload. onNumber (readNumber (partAt 3 ps)) (λ ptime. some (command entry payload ptime)) none)
     none)
     none
 
 unfoldable pub commandOf : List (List ℕ) → Option Event
-commandOf ps = cond (led setUpWord ps) (numbersOf setUp ps) (cond (led changeWord ps) (numbersOf change ps) none)
+commandOf ps = cond (led setUpWord ps) (commandNumbers setUp ps) (cond (led changeWord ps) (commandNumbers change ps) none)
 
 -- the event that fields name, by how many there are
-unfoldable pub eventOf : List (List ℕ) → Option Event
-eventOf ps =
+unfoldable pub fieldsEvent : List (List ℕ) → Option Event
+fieldsEvent ps =
     cond (eqb (length ps) 1) (bareOf ps)
     (cond (eqb (length ps) 2) (messageOf ps)
     (cond (eqb (length ps) 4) (commandOf ps) none))
 
 -- the event that a line names, whose text without its LF is s
-unfoldable pub eventIn : List ℕ → Option Event
-eventIn s = cond (ltb (length s) mostLine) (eventOf (fieldsOf s)) none
+unfoldable pub lineEvent : List ℕ → Option Event
+lineEvent s = cond (ltb (length s) mostLine) (fieldsEvent (fieldsOf s)) none

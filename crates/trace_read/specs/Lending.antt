@@ -6,13 +6,13 @@ use mathlib.Core.Bool.{Bool, _&&_, cond}
 use lib.ListN.{length, drop}
 use Rattle.octets.specs.Decimal.{onNumber}
 use Rattle.octets.specs.Split.{has, before}
+use Rattle.octets.specs.Text.{char, tab}
 use Rattle.octets.specs.Words.{begins}
 use Rattle.notation.specs.Notation.{lengthIn}
-use Rattle.trace_read.specs.Words.{tab}
 
--- `B` and a tab
+-- how a line begins that says the length of the buffer
 abbrev pub lendWord : List ℕ
-lendWord = 66 ∷ tab ∷ []
+lendWord = char "B" ∷ tab ∷ []
 
 -- the octets that are lent where a line says nothing
 abbrev pub usualRoom : ℕ

@@ -5,28 +5,28 @@ use mathlib.Core.List.{List, []}
 use mathlib.Core.Bool.{Bool, true, cond}
 use mathlib.Core.Option.{Option, none, some}
 use lib.ListN.{length, drop}
-use Rattle.configuration.specs.declared.Entry.{Entry}
+use Rattle.configuration.specs.declared.FoundCodec.{FoundCodec}
 use Rattle.configuration.specs.Configuration.{Codec, Configuration}
-use Rattle.configuration.specs.Meaning.{configurationBy, entryBy, formatInside, configInside}
+use Rattle.configuration.specs.Meaning.{configurationBy, foundBy, formatInside, configInside}
 use Rattle.endpoint.specs.Rule.{Event}
-use Rattle.endpoint.specs.Call as calls
+use Rattle.endpoint.specs.Step.{eventBy}
 use Rattle.trace_read.specs.declared.Asked.{Asked}
 use Rattle.trace_read.specs.declared.Asked.the-variants.{Event as Named, Digits, Nothing}
 use Rattle.trace_read.specs.declared.Configured.{Configured}
 use Rattle.trace_read.specs.declared.Lent as places
 use Rattle.trace_read.specs.Words.{mostLine}
-use Rattle.trace_read.specs.Events.{eventIn, messageBy}
+use Rattle.trace_read.specs.Events.{lineEvent, messageBy}
 use Rattle.trace_read.specs.Lending.{Lent}
 
 -- the event that was read of the line s
 unfoldable pub askedBy : List ℕ → Asked → Option Event
-askedBy s (Named call) = some (calls.eventOf call [])
+askedBy s (Named call) = some (eventBy call [])
 askedBy s Digits = messageBy (drop 2 s)
 askedBy s Nothing = none
 
 -- r is the event of the line s; whoever reads the digits of a message need not look at the line's length again
 pub record Asks (s : List ℕ) (r : Asked) : Type 0 where
-  pub is : askedBy s r ≡ eventIn s
+  pub is : askedBy s r ≡ lineEvent s
   pub short : r ≡ Digits → length s < mostLine
 
 -- the configuration that was read
@@ -44,8 +44,8 @@ pub record Fails (r : Configured) : Type 0 where
   pub inside : configInside (r .config) ≡ true
 
 -- for the private functions: r is the codec x, or none; the length of one that is known lies inside its array
-pub record Finds (x : Option Codec) (r : Entry) : Type 0 where
-  pub is : entryBy r ≡ x
+pub record Finds (x : Option Codec) (r : FoundCodec) : Type 0 where
+  pub is : foundBy r ≡ x
   pub inside : r .known ≡ true → formatInside (r .codec .format) ≡ true
 
 -- what is lent, and the event's line in s

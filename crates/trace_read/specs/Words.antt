@@ -2,9 +2,7 @@
 use Prim.Native.Nat.{ℕ}
 use mathlib.Core.List.{List, [], _∷_}
 use Rattle.octets.specs.Split.{splitOn}
-
-abbrev pub tab : ℕ
-tab = 9
+use Rattle.octets.specs.Text.{ascii, tab}
 
 abbrev pub fieldsOf : List ℕ → List (List ℕ)
 fieldsOf s = splitOn tab s
@@ -13,28 +11,28 @@ fieldsOf s = splitOn tab s
 abbrev pub mostLine : ℕ
 mostLine = 1200
 
--- ---- `G`, `K`
+-- ---- the first words of lines that configure
 abbrev pub generalWord : List ℕ
-generalWord = 71 ∷ []
+generalWord = ascii "G"
 
 abbrev pub codecWord : List ℕ
-codecWord = 75 ∷ []
+codecWord = ascii "K"
 
--- ---- `U`, `C`, `X`, `T1`, `T2`, `M`
+-- ---- the first words of events
 abbrev pub setUpWord : List ℕ
-setUpWord = 85 ∷ []
+setUpWord = ascii "U"
 
 abbrev pub changeWord : List ℕ
-changeWord = 67 ∷ []
+changeWord = ascii "C"
 
 abbrev pub releaseWord : List ℕ
-releaseWord = 88 ∷ []
+releaseWord = ascii "X"
 
 abbrev pub t1Word : List ℕ
-t1Word = 84 ∷ 49 ∷ []
+t1Word = ascii "T1"
 
 abbrev pub t2Word : List ℕ
-t2Word = 84 ∷ 50 ∷ []
+t2Word = ascii "T2"
 
 abbrev pub messageWord : List ℕ
-messageWord = 77 ∷ []
+messageWord = ascii "M"

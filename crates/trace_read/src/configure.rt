@@ -2,12 +2,12 @@
 ghost use mathlib.Core.Path.{_≡_};
 ghost use mathlib.Core.Bool.{true, _&&_};
 ghost use mathlib.Core.Option.{none};
-ghost use Rattle.octets.specs.Split.{partOf};
+ghost use Rattle.octets.specs.Split.{partAt};
 ghost use Rattle.configuration.specs.Meaning.{codecBy, configurationBy, formatInside, configInside};
 ghost use Rattle.trace_read.specs.Words.{fieldsOf};
 ghost use Rattle.trace_read.specs.Configuring.{hostIn, general, usable, timesOf, generalFields, generalIn, codecOf, payloadOf, rightly, addedTo, isCodecLine, codecIn};
 ghost use Rattle.trace_read.specs.Meaning.{Configures, Fails, Finds};
-ghost use Rattle.trace_read.specs.Steps.{smallOf, fourOf};
+ghost use Rattle.trace_read.specs.Steps.{smallOf, fourNumbers};
 ghost use Rattle.configuration.specs.Configuration.{named};
 use crate::Configured;
 use crate::events::number;
@@ -17,7 +17,7 @@ use address::ipv4::read_ipv4;
 use address::ipv6::read_ipv6;
 use configuration::Codec;
 use configuration::Config;
-use configuration::Entry;
+use configuration::FoundCodec;
 use configuration::Format;
 use configuration::MOST_CODECS;
 use configuration::MOST_NAME;
@@ -39,7 +39,7 @@ enum Small {
 }
 
 // The packet times and timers of a configuration.
-enum Four {
+enum FourNumbers {
     Numbers(u8, u8, u8, u8),
     Wrong,
 }
@@ -63,7 +63,7 @@ fn unread() -> Config
 
 // The number in field k of a line, where an octet holds it.
 fn small_number(s: &[u8], k: usize) -> Small
-    ensures { λ r. ⌜ r ≡ smallOf (partOf k (fieldsOf (now (s .entry)))) ⌝ }
+    ensures { λ r. ⌜ r ≡ smallOf (partAt k (fieldsOf (now (s .entry)))) ⌝ }
 {
     let x = number(s, k);
     let Number::Value(n) = x else {
@@ -76,26 +76,26 @@ fn small_number(s: &[u8], k: usize) -> Small
 }
 
 // The numbers in fields 3 to 6.
-fn four_numbers(s: &[u8]) -> Four
-    ensures { λ r. ⌜ r ≡ fourOf (fieldsOf (now (s .entry))) ⌝ }
+fn four_numbers(s: &[u8]) -> FourNumbers
+    ensures { λ r. ⌜ r ≡ fourNumbers (fieldsOf (now (s .entry))) ⌝ }
 {
     let a = small_number(s, 3);
     let Small::Value(least) = a else {
-        return Four::Wrong;
+        return FourNumbers::Wrong;
     };
     let b = small_number(s, 4);
     let Small::Value(most) = b else {
-        return Four::Wrong;
+        return FourNumbers::Wrong;
     };
     let c = small_number(s, 5);
     let Small::Value(t1) = c else {
-        return Four::Wrong;
+        return FourNumbers::Wrong;
     };
     let d = small_number(s, 6);
     let Small::Value(t2) = d else {
-        return Four::Wrong;
+        return FourNumbers::Wrong;
     };
-    Four::Numbers(least, most, t1, t2)
+    FourNumbers::Numbers(least, most, t1, t2)
 }
 
 // An address of either family.
@@ -111,9 +111,9 @@ fn read_host(s: &[u8]) -> Parsed
 
 // The address in field 1.
 fn host(s: &[u8]) -> Parsed
-    ensures { λ r. ⌜ r ≡ hostIn (partOf 1 (fieldsOf (now (s .entry)))) ⌝ }
+    ensures { λ r. ⌜ r ≡ hostIn (partAt 1 (fieldsOf (now (s .entry)))) ⌝ }
 {
-    read_host(part(s, 9, 1))
+    read_host(part(s, b'\t', 1))
 }
 
 // What can't be used.
@@ -152,8 +152,8 @@ fn timed(s: &[u8], own: Address, port: u16) -> Configured
     ensures { λ r. ⌜ Configures true (timesOf own port (fieldsOf (now (s .entry)))) r ⌝ }
 {
     match four_numbers(s) {
-        Four::Numbers(least, most, t1, t2) => general_of(own, port, least, most, t1, t2),
-        Four::Wrong => wrong(),
+        FourNumbers::Numbers(least, most, t1, t2) => general_of(own, port, least, most, t1, t2),
+        FourNumbers::Wrong => wrong(),
     }
 }
 
@@ -176,10 +176,10 @@ fn addressed(s: &[u8]) -> Configured
 pub fn read_general(s: &[u8]) -> Configured
     ensures { λ r. ⌜ Configures true (generalIn (now (s .entry))) r ⌝ }
 {
-    if separators(s, 9) != 6 {
+    if separators(s, b'\t') != 6 {
         return wrong();
     }
-    if equals(b"G", part(s, 9, 0)) {
+    if equals(b"G", part(s, b'\t', 0)) {
         return addressed(s);
     }
     wrong()
@@ -189,21 +189,21 @@ pub fn read_general(s: &[u8]) -> Configured
 pub fn is_codec_line(s: &[u8]) -> bool
     ensures { λ r. ⌜ r ≡ isCodecLine (now (s .entry)) ⌝ }
 {
-    equals(b"K", part(s, 9, 0))
+    equals(b"K", part(s, b'\t', 0))
 }
 
 // No codec.
-fn no_codec() -> Entry
+fn no_codec() -> FoundCodec
     ensures { λ r. ⌜ Finds none r ⌝ }
 {
-    Entry {
+    FoundCodec {
         known: false,
         codec: blank(),
     }
 }
 
 // The codec that a payload names.
-fn read_payload(t: &[u8]) -> Entry
+fn read_payload(t: &[u8]) -> FoundCodec
     ensures { λ r. ⌜ Finds (payloadOf (now (t .entry))) r ⌝ }
 {
     let x = read_number(t);
@@ -214,7 +214,7 @@ fn read_payload(t: &[u8]) -> Entry
         return no_codec();
     }
     let name = [0u8; MOST_NAME];
-    Entry {
+    FoundCodec {
         known: true,
         codec: Codec {
             format: Format::Payload(n as u8),
@@ -224,7 +224,7 @@ fn read_payload(t: &[u8]) -> Entry
 }
 
 // The codec that an encoding name names.
-fn read_name(t: &[u8]) -> Entry
+fn read_name(t: &[u8]) -> FoundCodec
     ensures { λ r. ⌜ Finds (rightly (named (now (t .entry)))) r ⌝ }
 {
     if MOST_NAME < t.len() {
@@ -236,14 +236,14 @@ fn read_name(t: &[u8]) -> Entry
         format: Format::Named(t.len()),
         name,
     };
-    Entry {
+    FoundCodec {
         known: right_codec(codec),
         codec,
     }
 }
 
 // The codec that a field names.
-fn read_codec(t: &[u8]) -> Entry
+fn read_codec(t: &[u8]) -> FoundCodec
     ensures { λ r. ⌜ Finds (codecOf (now (t .entry))) r ⌝ }
 {
     if digit_run(t) {
@@ -253,10 +253,10 @@ fn read_codec(t: &[u8]) -> Entry
 }
 
 // The codec in field 1.
-fn codec_field(s: &[u8]) -> Entry
-    ensures { λ r. ⌜ Finds (codecOf (partOf 1 (fieldsOf (now (s .entry))))) r ⌝ }
+fn codec_field(s: &[u8]) -> FoundCodec
+    ensures { λ r. ⌜ Finds (codecOf (partAt 1 (fieldsOf (now (s .entry))))) r ⌝ }
 {
-    read_codec(part(s, 9, 1))
+    read_codec(part(s, b'\t', 1))
 }
 
 // The configuration with one codec more.
@@ -280,7 +280,7 @@ fn add_codec(c: Config, codec: Codec) -> Configured
 pub fn read_codec_line(c: Config, s: &[u8]) -> Configured
     ensures { λ r. ⌜ Configures (configInside c) (codecIn (configurationBy c) (now (s .entry))) r ⌝ }
 {
-    if separators(s, 9) != 1 {
+    if separators(s, b'\t') != 1 {
         return wrong();
     }
     let e = codec_field(s);

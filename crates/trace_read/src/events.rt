@@ -3,16 +3,16 @@ ghost use mathlib.Core.Path.{_≡_};
 ghost use mathlib.Core.Bool.{false};
 ghost use mathlib.Core.List.{[], _∷_};
 ghost use Rattle.octets.specs.Decimal.{readNumber};
-ghost use Rattle.octets.specs.Split.{partOf};
+ghost use Rattle.octets.specs.Split.{partAt};
 ghost use Rattle.octets.specs.Words.{begins};
 ghost use Rattle.endpoint.specs.Rule.{Event};
 ghost use Rattle.trace_read.specs.Words.{fieldsOf};
-ghost use Rattle.trace_read.specs.Events.{bareOf, numbersOf, commandOf, eventOf};
+ghost use Rattle.trace_read.specs.Events.{bareOf, commandNumbers, commandOf, fieldsEvent};
 ghost use Rattle.trace_read.specs.Meaning.{askedBy, Asks};
-ghost use Rattle.trace_read.specs.Steps.{threeOf};
+ghost use Rattle.trace_read.specs.Steps.{threeNumbers};
 use crate::Asked;
 use crate::MOST_LINE;
-use endpoint::Call;
+use endpoint::Event;
 use octets::Number;
 use octets::decimal::read_number;
 use octets::parts::part;
@@ -21,51 +21,51 @@ use octets::words::equals;
 use octets::words::starts;
 
 // The numbers of a command.
-enum Three {
+enum ThreeNumbers {
     Numbers(u16, u16, u16),
     Wrong,
 }
 
 // The number in field k of a line.
 pub(crate) fn number(s: &[u8], k: usize) -> Number
-    ensures { λ r. ⌜ r ≡ readNumber (partOf k (fieldsOf (now (s .entry)))) ⌝ }
+    ensures { λ r. ⌜ r ≡ readNumber (partAt k (fieldsOf (now (s .entry)))) ⌝ }
 {
-    read_number(part(s, 9, k))
+    read_number(part(s, b'\t', k))
 }
 
 // The numbers in fields 1 to 3.
-fn three_numbers(s: &[u8]) -> Three
-    ensures { λ r. ⌜ r ≡ threeOf (fieldsOf (now (s .entry))) ⌝ }
+fn three_numbers(s: &[u8]) -> ThreeNumbers
+    ensures { λ r. ⌜ r ≡ threeNumbers (fieldsOf (now (s .entry))) ⌝ }
 {
     match number(s, 1) {
         Number::Value(a) => match number(s, 2) {
             Number::Value(b) => match number(s, 3) {
-                Number::Value(c) => Three::Numbers(a, b, c),
-                Number::Bad => Three::Wrong,
+                Number::Value(c) => ThreeNumbers::Numbers(a, b, c),
+                Number::Bad => ThreeNumbers::Wrong,
             },
-            Number::Bad => Three::Wrong,
+            Number::Bad => ThreeNumbers::Wrong,
         },
-        Number::Bad => Three::Wrong,
+        Number::Bad => ThreeNumbers::Wrong,
     }
 }
 
 // A set-up, by its numbers.
 fn set_up(s: &[u8]) -> Asked
-    ensures { λ r. ⌜ askedBy (now (s .entry)) r ≡ numbersOf Event.setUp (fieldsOf (now (s .entry))) ⌝ }
+    ensures { λ r. ⌜ askedBy (now (s .entry)) r ≡ commandNumbers Event.setUp (fieldsOf (now (s .entry))) ⌝ }
 {
     match three_numbers(s) {
-        Three::Numbers(entry, payload, ptime) => Asked::Event(Call::SetUp(entry, payload, ptime)),
-        Three::Wrong => Asked::Nothing,
+        ThreeNumbers::Numbers(entry, payload, ptime) => Asked::Event(Event::SetUp(entry, payload, ptime)),
+        ThreeNumbers::Wrong => Asked::Nothing,
     }
 }
 
 // A change, by its numbers.
 fn change(s: &[u8]) -> Asked
-    ensures { λ r. ⌜ askedBy (now (s .entry)) r ≡ numbersOf Event.change (fieldsOf (now (s .entry))) ⌝ }
+    ensures { λ r. ⌜ askedBy (now (s .entry)) r ≡ commandNumbers Event.change (fieldsOf (now (s .entry))) ⌝ }
 {
     match three_numbers(s) {
-        Three::Numbers(entry, payload, ptime) => Asked::Event(Call::Change(entry, payload, ptime)),
-        Three::Wrong => Asked::Nothing,
+        ThreeNumbers::Numbers(entry, payload, ptime) => Asked::Event(Event::Change(entry, payload, ptime)),
+        ThreeNumbers::Wrong => Asked::Nothing,
     }
 }
 
@@ -73,7 +73,7 @@ fn change(s: &[u8]) -> Asked
 fn command(s: &[u8]) -> Asked
     ensures { λ r. ⌜ askedBy (now (s .entry)) r ≡ commandOf (fieldsOf (now (s .entry))) ⌝ }
 {
-    let word = part(s, 9, 0);
+    let word = part(s, b'\t', 0);
     if equals(b"U", word) {
         return set_up(s);
     }
@@ -87,15 +87,15 @@ fn command(s: &[u8]) -> Asked
 fn bare(s: &[u8]) -> Asked
     ensures { λ r. ⌜ askedBy (now (s .entry)) r ≡ bareOf (fieldsOf (now (s .entry))) ⌝ }
 {
-    let word = part(s, 9, 0);
+    let word = part(s, b'\t', 0);
     if equals(b"X", word) {
-        return Asked::Event(Call::Release);
+        return Asked::Event(Event::Release);
     }
     if equals(b"T1", word) {
-        return Asked::Event(Call::T1);
+        return Asked::Event(Event::T1);
     }
     if equals(b"T2", word) {
-        return Asked::Event(Call::T2);
+        return Asked::Event(Event::T2);
     }
     Asked::Nothing
 }
@@ -103,9 +103,9 @@ fn bare(s: &[u8]) -> Asked
 // The event of a line that does not begin with the word of messages and a tab.
 fn other(s: &[u8]) -> Asked
     requires { ⌜ begins (77 ∷ 9 ∷ []) (now s) ≡ false ⌝ }
-    ensures { λ r. ⌜ askedBy (now (s .entry)) r ≡ eventOf (fieldsOf (now (s .entry))) ⌝ }
+    ensures { λ r. ⌜ askedBy (now (s .entry)) r ≡ fieldsEvent (fieldsOf (now (s .entry))) ⌝ }
 {
-    let n = separators(s, 9);
+    let n = separators(s, b'\t');
     if n == 0 {
         return bare(s);
     }

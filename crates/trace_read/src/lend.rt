@@ -24,7 +24,7 @@ fn usual_room(s: &[u8]) -> Lent
 fn lend_behind(s: &[u8]) -> Lent
     ensures { λ r. ⌜ lentBy (now (s .entry)) r ≡ lentBehind (now (s .entry)) (drop 2 (now (s .entry))) ⌝ }
 {
-    let e = find_from(s, 9, 2);
+    let e = find_from(s, b'\t', 2);
     if s.len() <= e {
         return usual_room(s);
     }

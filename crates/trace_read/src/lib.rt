@@ -4,7 +4,7 @@ pub mod events;
 pub mod lend;
 
 use configuration::Config;
-use endpoint::Call;
+use endpoint::Event;
 
 // The most octets of a line, with its LF.
 pub const MOST_LINE: usize = 1200;
@@ -14,7 +14,7 @@ pub const USUAL_ROOM: usize = 2048;
 
 // What a line asks of the endpoint.
 pub enum Asked {
-    Event(Call),
+    Event(Event),
     // A message; its digits stand behind the line's first two octets, and are still unread.
     Digits,
     Nothing,

@@ -14,7 +14,7 @@ use Rattle.media.specs.declared.Stream.{Stream as Places}
 use Rattle.media.specs.Meaning.{streamBy, textsBy}
 use Rattle.bearer.specs.declared.Bearer as held
 use Rattle.bearer.specs.Bearer.{Bearer}
-use Rattle.bearer.specs.Meaning.{bearerBy, heldIf}
+use Rattle.bearer.specs.Meaning.{bearerBy, bearerIf}
 use Rattle.notation.specs.Notation.{octetsShown, textsShown}
 use Rattle.trace_write.specs.Detail.{mediaShown, attributesShown, bearerShown, forceShown, detailText}
 
@@ -49,11 +49,11 @@ unfolding bearerShown bearerBy
 bearer-shown b l g f at k r q p = append-then l g f _ _ at k r q p
 
 module _ (t : Bool) (b : Bearer) (l f : List ℕ) (at r : ℕ) where
-  pub force-held : t ≡ true → Appends l at (bearerShown b) r f → Appends l at (forceShown (heldIf t b)) r f
+  pub force-held : t ≡ true → Appends l at (bearerShown b) r f → Appends l at (forceShown (bearerIf t b)) r f
   unfolding forceShown
   force-held e a = rw e a
 
-  pub force-none : t ≡ false → Appends l at (45 ∷ []) r f → Appends l at (forceShown (heldIf t b)) r f
+  pub force-none : t ≡ false → Appends l at (45 ∷ []) r f → Appends l at (forceShown (bearerIf t b)) r f
   unfolding forceShown
   force-none e a = rw e a
 

@@ -14,7 +14,7 @@ use Rattle.endpoint.specs.declared.Reply.{Reply}
 use Rattle.endpoint.specs.declared.Reply.the-variants.{Refused, Done}
 use Rattle.endpoint.specs.Rule.{Event}
 use Rattle.trace_write.specs.Words.{kindWord, badWord, stateWord, noticeWord, droppedWord}
-use Rattle.trace_write.specs.Lines.{kindOf, headText, nothingText, replyText, eventText}
+use Rattle.trace_write.specs.Lines.{kindField, numberAndKind, nothingText, replyText, eventText}
 
 module _ (l g f : List ℕ) (at k r : ℕ) where
   -- a text and a blank, and another text
@@ -35,18 +35,18 @@ module _ (l g f : List ℕ) (at k r : ℕ) where
 
   -- ---- the number and the kind
   pub head-event : (n : ℕ) (e : Event) → Appends g k (kindWord e) r f → Appends l at (numberText n ++ (32 ∷ [])) k g
-      → Appends l at (headText n (some e)) r f
-  unfolding headText kindOf
+      → Appends l at (numberAndKind n (some e)) r f
+  unfolding numberAndKind kindField
   head-event n e b a = blank-then (numberText n) (kindWord e) b a
 
-  pub head-bad : (n : ℕ) → Appends g k badWord r f → Appends l at (numberText n ++ (32 ∷ [])) k g → Appends l at (headText n none) r f
-  unfolding headText kindOf
+  pub head-bad : (n : ℕ) → Appends g k badWord r f → Appends l at (numberText n ++ (32 ∷ [])) k g → Appends l at (numberAndKind n none) r f
+  unfolding numberAndKind kindField
   head-bad n b a = blank-then (numberText n) badWord b a
 
   -- ---- both
   pub event-text : (n : ℕ) (e : Option Event) (s : State) (p : Reply) → Appends g k (32 ∷ replyText s p) r f
-      → Appends l at (headText n e) k g → Appends l at (eventText n e s p) r f
+      → Appends l at (numberAndKind n e) k g → Appends l at (eventText n e s p) r f
   unfolding eventText
-  event-text n e s p b a = append-then l g f (headText n e) (32 ∷ replyText s p) at k r b a
+  event-text n e s p b a = append-then l g f (numberAndKind n e) (32 ∷ replyText s p) at k r b a
 
 pub ruleset replies = (reply-refused, reply-done)

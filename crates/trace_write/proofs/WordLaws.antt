@@ -7,12 +7,12 @@ use mathlib.Core.Bool.{Bool}
 use Rattle.octets.specs.Append.{Appends}
 use Rattle.book.specs.declared.State.{State}
 use Rattle.book.specs.declared.Notice.{Notice}
-use Rattle.endpoint.specs.declared.Call.{Call}
-use Rattle.endpoint.specs.Call.{eventOf}
+use Rattle.endpoint.specs.declared.Event as code
+use Rattle.endpoint.specs.Step.{eventBy}
 use Rattle.trace_write.specs.Words.{kindWord, stateWord, noticeWord, droppedWord}
 
 module _ (l f : List ℕ) (at r : ℕ) where
-  pub kind-told : (x c : Call) → x ≡ c → Appends l at (kindWord (eventOf c [])) r f → Appends l at (kindWord (eventOf x [])) r f
+  pub kind-told : (x c : code.Event) → x ≡ c → Appends l at (kindWord (eventBy c [])) r f → Appends l at (kindWord (eventBy x [])) r f
   kind-told x c e a = rw e a
 
   pub state-told : (x c : State) → x ≡ c → Appends l at (stateWord c) r f → Appends l at (stateWord x) r f

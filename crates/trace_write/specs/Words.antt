@@ -2,45 +2,44 @@
 use Prim.Native.Nat.{ℕ}
 use mathlib.Core.List.{List, [], _∷_}
 use mathlib.Core.Bool.{Bool, true, false}
+use Rattle.octets.specs.Text.{ascii}
 use Rattle.book.specs.declared.State.{State}
 use Rattle.book.specs.declared.State.the-variants as state
 use Rattle.book.specs.declared.Notice.{Notice}
 use Rattle.book.specs.declared.Notice.the-variants as notice
 use Rattle.endpoint.specs.Rule.{Event, setUp, change, release, t1, t2, message}
 
--- the kind of an event: `U`, `C`, `X`, `T1`, `T2`, `M`
+-- the kind of an event
 unfoldable pub kindWord : Event → List ℕ
-kindWord (setUp entry payload ptime) = 85 ∷ []
-kindWord (change entry payload ptime) = 67 ∷ []
-kindWord release = 88 ∷ []
-kindWord t1 = 84 ∷ 49 ∷ []
-kindWord t2 = 84 ∷ 50 ∷ []
-kindWord (message m) = 77 ∷ []
+kindWord (setUp entry payload ptime) = ascii "U"
+kindWord (change entry payload ptime) = ascii "C"
+kindWord release = ascii "X"
+kindWord t1 = ascii "T1"
+kindWord t2 = ascii "T2"
+kindWord (message m) = ascii "M"
 
--- the kind of a line that is no event: `bad`
+-- the kind of a line that is no event
 abbrev pub badWord : List ℕ
-badWord = 98 ∷ 97 ∷ 100 ∷ []
+badWord = ascii "bad"
 
--- `idle`, `await-setup`, `up`, `await-change`
 unfoldable pub stateWord : State → List ℕ
-stateWord state.Idle = 105 ∷ 100 ∷ 108 ∷ 101 ∷ []
-stateWord state.AwaitSetup = 97 ∷ 119 ∷ 97 ∷ 105 ∷ 116 ∷ 45 ∷ 115 ∷ 101 ∷ 116 ∷ 117 ∷ 112 ∷ []
-stateWord state.Up = 117 ∷ 112 ∷ []
-stateWord state.AwaitChange = 97 ∷ 119 ∷ 97 ∷ 105 ∷ 116 ∷ 45 ∷ 99 ∷ 104 ∷ 97 ∷ 110 ∷ 103 ∷ 101 ∷ []
+stateWord state.Idle = ascii "idle"
+stateWord state.AwaitSetup = ascii "await-setup"
+stateWord state.Up = ascii "up"
+stateWord state.AwaitChange = ascii "await-change"
 
--- `none`, `up`, `changed`, `released`, `setup-failed`, `change-failed`, `rejected`, `confused`, `discarded`
 unfoldable pub noticeWord : Notice → List ℕ
-noticeWord notice.None = 110 ∷ 111 ∷ 110 ∷ 101 ∷ []
-noticeWord notice.Up = 117 ∷ 112 ∷ []
-noticeWord notice.Changed = 99 ∷ 104 ∷ 97 ∷ 110 ∷ 103 ∷ 101 ∷ 100 ∷ []
-noticeWord notice.Released = 114 ∷ 101 ∷ 108 ∷ 101 ∷ 97 ∷ 115 ∷ 101 ∷ 100 ∷ []
-noticeWord notice.SetupFailed = 115 ∷ 101 ∷ 116 ∷ 117 ∷ 112 ∷ 45 ∷ 102 ∷ 97 ∷ 105 ∷ 108 ∷ 101 ∷ 100 ∷ []
-noticeWord notice.ChangeFailed = 99 ∷ 104 ∷ 97 ∷ 110 ∷ 103 ∷ 101 ∷ 45 ∷ 102 ∷ 97 ∷ 105 ∷ 108 ∷ 101 ∷ 100 ∷ []
-noticeWord notice.Rejected = 114 ∷ 101 ∷ 106 ∷ 101 ∷ 99 ∷ 116 ∷ 101 ∷ 100 ∷ []
-noticeWord notice.Confused = 99 ∷ 111 ∷ 110 ∷ 102 ∷ 117 ∷ 115 ∷ 101 ∷ 100 ∷ []
-noticeWord notice.Discarded = 100 ∷ 105 ∷ 115 ∷ 99 ∷ 97 ∷ 114 ∷ 100 ∷ 101 ∷ 100 ∷ []
+noticeWord notice.None = ascii "none"
+noticeWord notice.Up = ascii "up"
+noticeWord notice.Changed = ascii "changed"
+noticeWord notice.Released = ascii "released"
+noticeWord notice.SetupFailed = ascii "setup-failed"
+noticeWord notice.ChangeFailed = ascii "change-failed"
+noticeWord notice.Rejected = ascii "rejected"
+noticeWord notice.Confused = ascii "confused"
+noticeWord notice.Discarded = ascii "discarded"
 
--- `yes`, `no`
+-- whether our own change was dropped
 unfoldable pub droppedWord : Bool → List ℕ
-droppedWord true = 121 ∷ 101 ∷ 115 ∷ []
-droppedWord false = 110 ∷ 111 ∷ []
+droppedWord true = ascii "yes"
+droppedWord false = ascii "no"

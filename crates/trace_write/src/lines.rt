@@ -1,18 +1,19 @@
 // The line of an event, without its LF, and what is printed of a configuration.
 ghost use mathlib.Core.List.{[], _∷_, _++_};
 ghost use mathlib.Core.Option.{none, some};
+ghost use Rattle.octets.specs.Text.{blank};
 ghost use Rattle.octets.specs.Append.{Appends, numberText};
-ghost use Rattle.endpoint.specs.Call as calls;
+ghost use Rattle.endpoint.specs.Step.{eventBy};
 ghost use Rattle.notation.specs.Notation.{refusedShown};
 ghost use Rattle.trace_write.specs.Words.{stateWord, noticeWord, droppedWord};
-ghost use Rattle.trace_write.specs.Lines.{headerLine, refusedLine, headText, nothingText, replyText, eventText};
+ghost use Rattle.trace_write.specs.Lines.{headerLine, refusedLine, numberAndKind, nothingText, replyText, eventText};
 use crate::words::push_dropped;
 use crate::words::push_kind;
 use crate::words::push_notice;
 use crate::words::push_state;
 use book::Notice;
 use book::State;
-use endpoint::Call;
+use endpoint::Event;
 use endpoint::Reply;
 use notation::push_refused;
 use octets::append::push;
@@ -32,31 +33,31 @@ pub fn push_refused_line(out: &mut [u8], at: usize) -> usize
     ensures { λ r. ⌜ Appends (now (out .entry)) at refusedLine r (now (out .exit)) ⌝ }
 {
     let k = push_refused(12, out, at);
-    push_octet(10, out, k)
+    push_octet(b'\n', out, k)
 }
 
 // Appends a state and a blank.
 fn push_state_then(state: State, out: &mut [u8], at: usize) -> usize
-    ensures { λ r. ⌜ Appends (now (out .entry)) at (stateWord state ++ (32 ∷ [])) r (now (out .exit)) ⌝ }
+    ensures { λ r. ⌜ Appends (now (out .entry)) at (stateWord state ++ (blank ∷ [])) r (now (out .exit)) ⌝ }
 {
     let k = push_state(state, out, at);
-    push_octet(32, out, k)
+    push_octet(b' ', out, k)
 }
 
 // Appends a notice and a blank.
 fn push_notice_then(notice: Notice, out: &mut [u8], at: usize) -> usize
-    ensures { λ r. ⌜ Appends (now (out .entry)) at (noticeWord notice ++ (32 ∷ [])) r (now (out .exit)) ⌝ }
+    ensures { λ r. ⌜ Appends (now (out .entry)) at (noticeWord notice ++ (blank ∷ [])) r (now (out .exit)) ⌝ }
 {
     let k = push_notice(notice, out, at);
-    push_octet(32, out, k)
+    push_octet(b' ', out, k)
 }
 
 // Appends whether our own change was dropped, and a blank.
 fn push_dropped_then(dropped: bool, out: &mut [u8], at: usize) -> usize
-    ensures { λ r. ⌜ Appends (now (out .entry)) at (droppedWord dropped ++ (32 ∷ [])) r (now (out .exit)) ⌝ }
+    ensures { λ r. ⌜ Appends (now (out .entry)) at (droppedWord dropped ++ (blank ∷ [])) r (now (out .exit)) ⌝ }
 {
     let k = push_dropped(dropped, out, at);
-    push_octet(32, out, k)
+    push_octet(b' ', out, k)
 }
 
 // Appends what a refusal has behind the state.
@@ -69,7 +70,7 @@ fn push_refusal(n: u8, out: &mut [u8], at: usize) -> usize
 
 // Appends whether our own change was dropped, and how many octets were written.
 fn push_written(dropped: bool, written: usize, out: &mut [u8], at: usize) -> usize
-    ensures { λ r. ⌜ Appends (now (out .entry)) at (droppedWord dropped ++ (32 ∷ numberText written)) r (now (out .exit)) ⌝ }
+    ensures { λ r. ⌜ Appends (now (out .entry)) at (droppedWord dropped ++ (blank ∷ numberText written)) r (now (out .exit)) ⌝ }
 {
     let k = push_dropped_then(dropped, out, at);
     push_number(written as u64, out, k)
@@ -77,7 +78,7 @@ fn push_written(dropped: bool, written: usize, out: &mut [u8], at: usize) -> usi
 
 // Appends what an event that is not refused has behind the state.
 fn push_done(notice: Notice, dropped: bool, written: usize, out: &mut [u8], at: usize) -> usize
-    ensures { λ r. ⌜ Appends (now (out .entry)) at (noticeWord notice ++ (32 ∷ (droppedWord dropped ++ (32 ∷ numberText written)))) r (now (out .exit)) ⌝ }
+    ensures { λ r. ⌜ Appends (now (out .entry)) at (noticeWord notice ++ (blank ∷ (droppedWord dropped ++ (blank ∷ numberText written)))) r (now (out .exit)) ⌝ }
 {
     let k = push_notice_then(notice, out, at);
     push_written(dropped, written, out, k)
@@ -105,16 +106,16 @@ fn push_reply(state: State, reply: Reply, out: &mut [u8], at: usize) -> usize
 }
 
 // Appends the number and the kind of an event.
-fn push_head(number: u64, call: Call, out: &mut [u8], at: usize) -> usize
-    ensures { λ r. ⌜ Appends (now (out .entry)) at (headText number (some (calls.eventOf call []))) r (now (out .exit)) ⌝ }
+fn push_head(number: u64, event: Event, out: &mut [u8], at: usize) -> usize
+    ensures { λ r. ⌜ Appends (now (out .entry)) at (numberAndKind number (some (eventBy event []))) r (now (out .exit)) ⌝ }
 {
     let k = push_number_then(number, 32, out, at);
-    push_kind(call, out, k)
+    push_kind(event, out, k)
 }
 
 // Appends the number of a line that is no event, and that it is bad.
 fn push_bad_head(number: u64, out: &mut [u8], at: usize) -> usize
-    ensures { λ r. ⌜ Appends (now (out .entry)) at (headText number none) r (now (out .exit)) ⌝ }
+    ensures { λ r. ⌜ Appends (now (out .entry)) at (numberAndKind number none) r (now (out .exit)) ⌝ }
 {
     let k = push_number_then(number, 32, out, at);
     push(b"bad", out, k)
@@ -122,24 +123,24 @@ fn push_bad_head(number: u64, out: &mut [u8], at: usize) -> usize
 
 // Appends a blank and a reply.
 fn push_behind(state: State, reply: Reply, out: &mut [u8], at: usize) -> usize
-    ensures { λ r. ⌜ Appends (now (out .entry)) at (32 ∷ replyText state reply) r (now (out .exit)) ⌝ }
+    ensures { λ r. ⌜ Appends (now (out .entry)) at (blank ∷ replyText state reply) r (now (out .exit)) ⌝ }
 {
-    let k = push_octet(32, out, at);
+    let k = push_octet(b' ', out, at);
     push_reply(state, reply, out, k)
 }
 
 // Appends the line of an event; state is the endpoint's before it.
 pub fn push_event(
     number: u64,
-    call: Call,
+    event: Event,
     state: State,
     reply: Reply,
     out: &mut [u8],
     at: usize,
 ) -> usize
-    ensures { λ r. ⌜ Appends (now (out .entry)) at (eventText number (some (calls.eventOf call [])) state reply) r (now (out .exit)) ⌝ }
+    ensures { λ r. ⌜ Appends (now (out .entry)) at (eventText number (some (eventBy event [])) state reply) r (now (out .exit)) ⌝ }
 {
-    let k = push_head(number, call, out, at);
+    let k = push_head(number, event, out, at);
     push_behind(state, reply, out, k)
 }
 

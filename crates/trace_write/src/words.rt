@@ -1,24 +1,24 @@
 // The words of the fields.
 ghost use mathlib.Core.List.{[]};
 ghost use Rattle.octets.specs.Append.{Appends};
-ghost use Rattle.endpoint.specs.Call.{eventOf};
+ghost use Rattle.endpoint.specs.Step.{eventBy};
 ghost use Rattle.trace_write.specs.Words.{kindWord, stateWord, noticeWord, droppedWord};
 use book::Notice;
 use book::State;
-use endpoint::Call;
+use endpoint::Event;
 use octets::append::push;
 
 // Appends the kind of an event.
-pub(crate) fn push_kind(call: Call, out: &mut [u8], at: usize) -> usize
-    ensures { λ r. ⌜ Appends (now (out .entry)) at (kindWord (eventOf call [])) r (now (out .exit)) ⌝ }
+pub(crate) fn push_kind(event: Event, out: &mut [u8], at: usize) -> usize
+    ensures { λ r. ⌜ Appends (now (out .entry)) at (kindWord (eventBy event [])) r (now (out .exit)) ⌝ }
 {
-    match call {
-        Call::SetUp(_, _, _) => push(b"U", out, at),
-        Call::Change(_, _, _) => push(b"C", out, at),
-        Call::Release => push(b"X", out, at),
-        Call::T1 => push(b"T1", out, at),
-        Call::T2 => push(b"T2", out, at),
-        Call::Message => push(b"M", out, at),
+    match event {
+        Event::SetUp(_, _, _) => push(b"U", out, at),
+        Event::Change(_, _, _) => push(b"C", out, at),
+        Event::Release => push(b"X", out, at),
+        Event::T1 => push(b"T1", out, at),
+        Event::T2 => push(b"T2", out, at),
+        Event::Message => push(b"M", out, at),
     }
 }
 

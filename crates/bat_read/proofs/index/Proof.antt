@@ -8,8 +8,8 @@ use Rattle.bat_read.proofs.index.Tie as tie
 enum-told : tie.Need-enum-told
 enum-told c = search needs
 
-enum-known-reading : tie.Need-enum-known-reading
-enum-known-reading c = search needs
+enum-known-decoding : tie.Need-enum-known-decoding
+enum-known-decoding c = search needs
 
 enum-told-2 : tie.Need-enum-told-2
 enum-told-2 c = search needs
@@ -34,7 +34,7 @@ index-spec =
     tie.close
     (tie.spec
     enum-told
-    enum-known-reading
+    enum-known-decoding
     enum-told-2
     enum-known-place
     add-result

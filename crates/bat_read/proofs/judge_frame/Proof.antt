@@ -11,14 +11,14 @@ contents-requires c κs = search needs
 decode-requires : tie.Need-decode-requires
 decode-requires c κs = search needs
 
-enum-known-reading : tie.Need-enum-known-reading
-enum-known-reading c = search needs
+enum-known-decoding : tie.Need-enum-known-decoding
+enum-known-decoding c = search needs
 
 enum-told : tie.Need-enum-told
 enum-told c = search needs
 
-head-length-requires : tie.Need-head-length-requires
-head-length-requires c κs = search needs
+header-length-requires : tie.Need-header-length-requires
+header-length-requires c κs = search needs
 
 index-requires : tie.Need-index-requires
 index-requires c κs = search (index-small, needs)
@@ -38,9 +38,9 @@ judge-frame-spec =
     (tie.spec
     contents-requires
     decode-requires
-    enum-known-reading
+    enum-known-decoding
     enum-told
-    head-length-requires
+    header-length-requires
     index-requires
     judge-requires
     returns

@@ -5,7 +5,7 @@ use mathlib.Core.Path.{_≡_}
 use lib.ListN.{length, drop}
 use Rattle.bat_read.specs.Examining.{listings}
 use Rattle.bat_read.proofs.OutcomeLaws.{seen-fits, seen-falls}
-use Rattle.bat_read.proofs.ListedLaws.{finding, list-next, list-more}
+use Rattle.bat_read.proofs.ListedLaws.{list-finds, list-next, list-more}
 use borrow.Author.Needs.{needs}
 use Rattle.bat_read.proofs.next_listed.Statement.{statement}
 use Rattle.bat_read.proofs.next_listed.Tie as tie
@@ -56,16 +56,16 @@ enum-told-2 : tie.Need-enum-told-2 Inv-loop μ-loop
 enum-told-2 c = search needs
 
 returns-2 : tie.Need-returns-2 Inv-loop μ-loop
-returns-2 c = search (finding, needs)
+returns-2 c = search (list-finds, needs)
 
 enum-told-3 : tie.Need-enum-told-3 Inv-loop μ-loop
 enum-told-3 c = search needs
 
 returns-3 : tie.Need-returns-3 Inv-loop μ-loop
-returns-3 c = search (finding, needs)
+returns-3 c = search (list-finds, needs)
 
 returns-4 : tie.Need-returns-4 Inv-loop μ-loop
-returns-4 c = search (finding, needs)
+returns-4 c = search (list-finds, needs)
 
 pub next-listed-spec : {M : Type 1} → statement M
 next-listed-spec =

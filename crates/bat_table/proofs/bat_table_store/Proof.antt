@@ -41,7 +41,7 @@ use Rattle.bat_table.specs.declared.Entry.{Entry}
 use Rattle.bat.specs.declared.Counted.{Counted}
 use Rattle.bat.specs.Framing.{cut}
 use Rattle.bat.specs.Meaning.{countOf}
-use Rattle.bat_table.specs.Table.{codeOf, tableAfter}
+use Rattle.bat_table.specs.Table.{countForC, tableAfter}
 use Rattle.bat_table.proofs.Entry as T
 use Rattle.bat.proofs.Counted as K
 use Rattle.bat.proofs.Counted.Laws as K′
@@ -116,10 +116,10 @@ module _ {M : Type 1} (𝓤 : URA M) (H : Heap 𝓤) (A : Atoms 𝓤) (W : Given
   goes-code : (r : Counted) (u : Val) → ent 𝓤 (sem 𝓤 H A (K.the-row .own r (u ∷ []))) (Code 𝓤 H A mem run .pre (to-code r u))
   goes-code r u = qed W (‵ (K.the-row .own r (u ∷ [])) ∷ []) ∵ nothing ! $ move ! (1 ∷ 0 ∷ []) $ join ! $ nothing ! $ join ! $ frame ! $ done !
 
-  code-said : (r : Counted) (m : ℕ) → ent 𝓤 (ensured 𝓤 H A code-of.ended (code-of.clauses 𝓤 H A mem run) tt (r, tt) tt m) (fact 𝓤 (m ≡ codeOf r))
-  code-said r m = exE 𝓤 _ (λ ws. snd∗ 𝓤 (sem 𝓤 H A (lasts code-of.ended tt (r, tt) ws)) (fact 𝓤 (m ≡ codeOf r)))
+  code-said : (r : Counted) (m : ℕ) → ent 𝓤 (ensured 𝓤 H A code-of.ended (code-of.clauses 𝓤 H A mem run) tt (r, tt) tt m) (fact 𝓤 (m ≡ countForC r))
+  code-said r m = exE 𝓤 _ (λ ws. snd∗ 𝓤 (sem 𝓤 H A (lasts code-of.ended tt (r, tt) ws)) (fact 𝓤 (m ≡ countForC r)))
 
-  exits : (m : ℕ) (w : Val) (zs : List Entry) → m ≡ codeOf (countOf (cut n ds)) → zs ≡ tableAfter ds ys → length zs ≡ n
+  exits : (m : ℕ) (w : Val) (zs : List Entry) → m ≡ countForC (countOf (cut n ds)) → zs ≡ tableAfter ds ys → length zs ≡ n
       → ent 𝓤 (⋆ 𝓤 H A ((‵ (flft κ q) ⊛ ‵ (flft κ′ q′) ⊛ ‵ ftrue) ∷ ‵ (finally T.the-row γ zs) ∷ ‵ Own ∷ ‵ (usize .own m (w ∷ [])) ∷ [])) (Post w)
   exits m w zs em ez el =
       qed W ((‵ (flft κ q) ⊛ ‵ (flft κ′ q′) ⊛ ‵ ftrue) ∷ ‵ (finally T.the-row γ zs) ∷ ‵ Own ∷ ‵ (usize .own m (w ∷ [])) ∷ []) ∵
@@ -146,12 +146,12 @@ module _ {M : Type 1} (𝓤 : URA M) (H : Heap 𝓤) (A : Atoms 𝓤) (W : Given
         use1 W (raw (Code 𝓤 H A mem run .pre (to-code r u))) (goes-code r u) $
         calls-at ! (fmOf 𝓤 H (W .laws) 𝓣) (Code 𝓤 H A mem run) known-code (to-code r u) (and-then ! (load ! (from ! (stop !)) (look ! 10 refl)) (no-more !)) (λ w.
         use1 W (later (some (λ (m : ℕ). (‵ ftrue ⊛ ‵ (usize .own m (w ∷ []))) ⊛ raw (ensured 𝓤 H A code-of.ended (code-of.clauses 𝓤 H A mem run) tt (r, tt) tt m)))) (id⊢ 𝓤 _) $ await ! tt $ pick ! (λ m.
-        split ! $ move ! (1 ∷ []) $ use1 W (raw (fact 𝓤 (m ≡ codeOf r))) (code-said r m) $ heard ! (m ≡ codeOf r) (λ em. split ! $ drop ! $
+        split ! $ move ! (1 ∷ []) $ use1 W (raw (fact 𝓤 (m ≡ countForC r))) (code-said r m) $ heard ! (m ≡ countForC r) (λ em. split ! $ drop ! $
         -- [the result; the tokens; the last list; true; true; what the data owns; _5; …]
         peeks ! usize (Is usize) (shows 𝓤 H A usize) m (w ∷ []) (λ ism. land ! (from ! (stop !)) (init ! 16 refl (uint-lawful 𝓤 H A W w64 .typed m _ ism .0)) $
         returns ! (look ! 16 refl) $ forget ! 6 refl $ forget ! 8 refl $ forget ! 10 refl $ forget ! 12 refl $ forget ! 14 refl $ forget ! 16 refl $
         move ! (16 ∷ 17 ∷ []) $ free1 ! $ move ! (14 ∷ 15 ∷ []) $ free1 ! $ move ! (12 ∷ 13 ∷ []) $ free1 ! $ move ! (10 ∷ 11 ∷ []) $ free1 ! $ move ! (8 ∷ 9 ∷ []) $ free1 ! $ move ! (6 ∷ 7 ∷ []) $ free1 ! $ free0 ! $
-        keep ! (1 ∷ 2 ∷ 5 ∷ 0 ∷ []) $ by ! (exits m w (zs .1 .0) (em ∙ ap codeOf (e .0)) (e .1) l)))))))))))))))))
+        keep ! (1 ∷ 2 ∷ 5 ∷ 0 ∷ []) $ by ! (exits m w (zs .1 .0) (em ∙ ap countForC (e .0)) (e .1) l)))))))))))))))))
 
 module _ {M : Type 1} (𝓤 : URA M) (H : Heap 𝓤) (A : Atoms 𝓤) (W : Given 𝓤 H A) (mem : Memory → SProp 𝓤) (run : Routine → Fun 𝓤) (𝓣 : Tables 𝓤 H)
     (known-store : Triple 𝓤 (𝓣 .C #bat_table·store-elements) (Store 𝓤 H A mem run)) (known-code : Triple 𝓤 (𝓣 .C #bat_table·steps·code) (Code 𝓤 H A mem run)) where

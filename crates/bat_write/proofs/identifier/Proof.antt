@@ -2,7 +2,7 @@
 -- Assumes nothing.
 use borrow.Author.Needs.{needs}
 use Rattle.octets.proofs.Pick.{picks}
-use Rattle.bat_write.specs.Texts.{codeOf}
+use Rattle.bat_write.specs.Texts.{identifierIn}
 use Rattle.bat_write.proofs.identifier.Statement.{statement}
 use Rattle.bat_write.proofs.identifier.Tie as tie
 
@@ -52,63 +52,63 @@ enum-told-15 : tie.Need-enum-told-15
 enum-told-15 c = search needs
 
 returns : tie.Need-returns
-unfolding codeOf
+unfolding identifierIn
 returns c = search (picks, needs)
 
 returns-2 : tie.Need-returns-2
-unfolding codeOf
+unfolding identifierIn
 returns-2 c = search (picks, needs)
 
 returns-3 : tie.Need-returns-3
-unfolding codeOf
+unfolding identifierIn
 returns-3 c = search (picks, needs)
 
 returns-4 : tie.Need-returns-4
-unfolding codeOf
+unfolding identifierIn
 returns-4 c = search (picks, needs)
 
 returns-5 : tie.Need-returns-5
-unfolding codeOf
+unfolding identifierIn
 returns-5 c = search (picks, needs)
 
 returns-6 : tie.Need-returns-6
-unfolding codeOf
+unfolding identifierIn
 returns-6 c = search (picks, needs)
 
 returns-7 : tie.Need-returns-7
-unfolding codeOf
+unfolding identifierIn
 returns-7 c = search (picks, needs)
 
 returns-8 : tie.Need-returns-8
-unfolding codeOf
+unfolding identifierIn
 returns-8 c = search (picks, needs)
 
 returns-9 : tie.Need-returns-9
-unfolding codeOf
+unfolding identifierIn
 returns-9 c = search (picks, needs)
 
 returns-10 : tie.Need-returns-10
-unfolding codeOf
+unfolding identifierIn
 returns-10 c = search (picks, needs)
 
 returns-11 : tie.Need-returns-11
-unfolding codeOf
+unfolding identifierIn
 returns-11 c = search (picks, needs)
 
 returns-12 : tie.Need-returns-12
-unfolding codeOf
+unfolding identifierIn
 returns-12 c = search (picks, needs)
 
 returns-13 : tie.Need-returns-13
-unfolding codeOf
+unfolding identifierIn
 returns-13 c = search (picks, needs)
 
 returns-14 : tie.Need-returns-14
-unfolding codeOf
+unfolding identifierIn
 returns-14 c = search (picks, needs)
 
 returns-15 : tie.Need-returns-15
-unfolding codeOf
+unfolding identifierIn
 returns-15 c = search (picks, needs)
 
 pub identifier-spec : {M : Type 1} → statement M

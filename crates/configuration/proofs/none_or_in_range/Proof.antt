@@ -2,7 +2,7 @@
 -- Assumes nothing.
 use borrow.Author.Needs.{needs}
 use Rattle.octets.proofs.Pick.{picks}
-use Rattle.configuration.specs.Configuration.{noneOrInRange}
+use Rattle.configuration.specs.Configuration.{ptimeNoneOrInRange}
 use Rattle.configuration.specs.Meaning.{configurationBy}
 use Rattle.configuration.proofs.none_or_in_range.Statement.{statement}
 use Rattle.configuration.proofs.none_or_in_range.Tie as tie
@@ -14,15 +14,15 @@ cast-most : tie.Need-cast-most
 cast-most c = search needs
 
 returns : tie.Need-returns
-unfolding configurationBy noneOrInRange
+unfolding configurationBy ptimeNoneOrInRange
 returns c = search (picks, needs)
 
 returns-2 : tie.Need-returns-2
-unfolding configurationBy noneOrInRange
+unfolding configurationBy ptimeNoneOrInRange
 returns-2 c = search (picks, needs)
 
 returns-3 : tie.Need-returns-3
-unfolding configurationBy noneOrInRange
+unfolding configurationBy ptimeNoneOrInRange
 returns-3 c = search (picks, needs)
 
 pub none-or-in-range-spec : {M : Type 1} → statement M

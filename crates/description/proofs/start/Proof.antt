@@ -1,13 +1,13 @@
--- `start` meets its contract: nothing has been said.
+-- `emptyDraft` meets its contract: nothing has been said.
 -- Assumes nothing.
 use borrow.Author.Needs.{needs}
 use Rattle.description.proofs.start.Statement.{statement}
 use Rattle.description.proofs.start.Tie as tie
-use Rattle.description.specs.Draft.{start}
+use Rattle.description.specs.Draft.{emptyDraft}
 use Rattle.description.specs.Meaning.{preambleBy}
 
 returns : tie.Need-returns
-unfolding preambleBy start
+unfolding preambleBy emptyDraft
 returns c = search needs
 
 pub start-spec : {M : Type 1} → statement M

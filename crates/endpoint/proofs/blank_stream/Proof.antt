@@ -1,7 +1,6 @@
--- `blank_stream` meets its contract: a span of no octets at the front lies inside any text.
+-- `blank_stream` meets its contract: it is the media line of no text.
 -- Assumes nothing.
 use borrow.Author.Needs.{needs}
-use Rattle.endpoint.proofs.VerdictLaws.{blank-inside}
 use Rattle.endpoint.proofs.blank_stream.Statement.{statement}
 use Rattle.endpoint.proofs.blank_stream.Tie as tie
 
@@ -9,7 +8,7 @@ bare-requires : tie.Need-bare-requires
 bare-requires c κs = search needs
 
 returns : tie.Need-returns
-returns c = search (blank-inside, needs)
+returns c = search needs
 
 pub blank-stream-spec : {M : Type 1} → statement M
 blank-stream-spec = tie.close (tie.spec bare-requires returns)

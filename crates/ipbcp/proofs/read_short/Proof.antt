@@ -5,16 +5,16 @@ use Rattle.ipbcp.proofs.read_short.Statement.{statement}
 use Rattle.ipbcp.proofs.read_short.Tie as tie
 use Rattle.ipbcp.proofs.WholeLaws.{preamble-start, preambles}
 use Rattle.sdp.proofs.CutLaws.{loop-falls}
-use Rattle.description.specs.Draft.{start}
+use Rattle.description.specs.Draft.{emptyDraft}
 use Rattle.description.specs.Meaning.{preambleBy}
 use Rattle.ipbcp.specs.Types.{headIn}
-use Rattle.ipbcp.specs.Whole.{wholeOf}
+use Rattle.ipbcp.specs.Whole.{afterText}
 use Prim.Native.Nat.{_-_}
 use mathlib.Core.Path.{_≡_}
 use lib.ListN.{length, drop}
 
 abbrev Inv-loop : tie.InvT-loop
-Inv-loop m p₀ i₀ p i = (wholeOf (preambleBy p) (drop i m) ≡ wholeOf start m) × (headIn (drop i m) ≡ headIn m)
+Inv-loop m p₀ i₀ p i = (afterText (preambleBy p) (drop i m) ≡ afterText emptyDraft m) × (headIn (drop i m) ≡ headIn m)
 
 abbrev μ-loop : tie.MeasureT-loop
 μ-loop m p₀ i₀ p i = length m - i

@@ -4,7 +4,7 @@ use borrow.Author.Needs.{needs}
 use Rattle.ipbcp_write.proofs.kind_of.Statement.{statement}
 use Rattle.ipbcp_write.proofs.kind_of.Tie as tie
 use Rattle.ipbcp_write.proofs.WriteLaws.{kind-of}
-use Rattle.ipbcp_write.specs.Parts.{kindOf}
+use Rattle.ipbcp_write.specs.Parts.{bodyType}
 
 enum-told : tie.Need-enum-told
 enum-told c = search needs
@@ -19,19 +19,19 @@ enum-told-4 : tie.Need-enum-told-4
 enum-told-4 c = search needs
 
 returns : tie.Need-returns
-unfolding kindOf
+unfolding bodyType
 returns c = search (kind-of, needs)
 
 returns-2 : tie.Need-returns-2
-unfolding kindOf
+unfolding bodyType
 returns-2 c = search (kind-of, needs)
 
 returns-3 : tie.Need-returns-3
-unfolding kindOf
+unfolding bodyType
 returns-3 c = search (kind-of, needs)
 
 returns-4 : tie.Need-returns-4
-unfolding kindOf
+unfolding bodyType
 returns-4 c = search (kind-of, needs)
 
 pub kind-of-spec : {M : Type 1} → statement M

@@ -1,7 +1,7 @@
 -- `write::push_ipv4` meets its contract. The last two numbers are appended behind the first two.
 -- Assumes nothing.
 use borrow.Author.Needs.{needs}
-use Rattle.address.specs.Canonical.{numbersOf, ipv4Text}
+use Rattle.address.specs.Canonical.{dottedNumbers, ipv4Text}
 use Rattle.address.proofs.WriteLaws.{four-pushed}
 use Rattle.address.proofs.write.push_ipv4.Statement.{statement}
 use Rattle.address.proofs.write.push_ipv4.Tie as tie
@@ -28,7 +28,7 @@ same-length : tie.Need-same-length
 same-length c = search needs
 
 returns : tie.Need-returns
-unfolding ipv4Text numbersOf
+unfolding ipv4Text dottedNumbers
 returns c = search (four-pushed, needs)
 
 pub push-ipv4-spec : {M : Type 1} → statement M

@@ -1,7 +1,7 @@
 -- `write::push_ipv6` meets its contract. The groups of the array are those of the two halves.
 -- Assumes nothing.
 use borrow.Author.Needs.{needs}
-use Rattle.address.specs.Canonical.{fourOf, groupsOf, ipv6Text}
+use Rattle.address.specs.Canonical.{fourGroups, groupsOf, ipv6Text}
 use Rattle.address.proofs.write.push_ipv6.Statement.{statement}
 use Rattle.address.proofs.write.push_ipv6.Tie as tie
 
@@ -39,7 +39,7 @@ same-length : tie.Need-same-length
 same-length c = search needs
 
 returns : tie.Need-returns
-unfolding ipv6Text groupsOf fourOf
+unfolding ipv6Text groupsOf fourGroups
 returns c = search needs
 
 pub push-ipv6-spec : {M : Type 1} → statement M

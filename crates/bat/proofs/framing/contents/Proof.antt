@@ -5,8 +5,8 @@ use borrow.Author.Needs.{needs}
 use Rattle.bat.proofs.framing.contents.Statement.{statement}
 use Rattle.bat.proofs.framing.contents.Tie as tie
 
-head-length-requires : tie.Need-head-length-requires
-head-length-requires c κs = search needs
+header-length-requires : tie.Need-header-length-requires
+header-length-requires c κs = search needs
 
 cast-len : tie.Need-cast-len
 cast-len c = search needs
@@ -18,4 +18,4 @@ returns : tie.Need-returns
 returns c = search (text-contents, needs)
 
 pub contents-spec : {M : Type 1} → statement M
-contents-spec = tie.close (tie.spec head-length-requires cast-len text-requires returns)
+contents-spec = tie.close (tie.spec header-length-requires cast-len text-requires returns)

@@ -1,7 +1,7 @@
 -- `simple::address` meets its contract: the test is that of `addressIn`, and the span stands for all of the contents.
 -- Assumes nothing.
 use Rattle.octets.proofs.Pick.{picks, flags, some-is}
-use Rattle.bat.specs.Meaning.{allInside, valueIn, valueBy, readingIn}
+use Rattle.bat.specs.Meaning.{valueInside, valueIn, valueBy, decodingIn}
 use Rattle.bat.specs.Values.{addressIn}
 use borrow.Author.Needs.{needs}
 use Rattle.bat_read.proofs.simple.address.Statement.{statement}
@@ -14,11 +14,11 @@ all-requires : tie.Need-all-requires
 all-requires c κs = search needs
 
 returns : tie.Need-returns
-unfolding readingIn valueIn allInside valueBy addressIn
+unfolding decodingIn valueIn valueInside valueBy addressIn
 returns c = rw (c .all .ensures .within, c .all .ensures .is) (search (some-is, picks, flags, needs))
 
 returns-2 : tie.Need-returns-2
-unfolding readingIn valueIn allInside valueBy addressIn
+unfolding decodingIn valueIn valueInside valueBy addressIn
 returns-2 c = search (some-is, picks, flags, needs)
 
 pub address-spec : {M : Type 1} → statement M

@@ -1,7 +1,7 @@
 -- `simple::indicators` meets its contract: the test is that of `indicatorsIn`, and the span stands for all of the contents.
 -- Assumes nothing.
 use Rattle.octets.proofs.Pick.{picks, flags, some-is}
-use Rattle.bat.specs.Meaning.{allInside, valueIn, valueBy, readingIn}
+use Rattle.bat.specs.Meaning.{valueInside, valueIn, valueBy, decodingIn}
 use Rattle.bat.specs.Values.{indicatorsIn}
 use borrow.Author.Needs.{needs}
 use Rattle.bat_read.proofs.simple.indicators.Statement.{statement}
@@ -14,11 +14,11 @@ all-requires : tie.Need-all-requires
 all-requires c κs = search needs
 
 returns : tie.Need-returns
-unfolding readingIn valueIn allInside valueBy indicatorsIn
+unfolding decodingIn valueIn valueInside valueBy indicatorsIn
 returns c = rw (c .all .ensures .within, c .all .ensures .is) (search (some-is, picks, flags, needs))
 
 returns-2 : tie.Need-returns-2
-unfolding readingIn valueIn allInside valueBy indicatorsIn
+unfolding decodingIn valueIn valueInside valueBy indicatorsIn
 returns-2 c = search (some-is, picks, flags, needs)
 
 pub indicators-spec : {M : Type 1} → statement M

@@ -1,7 +1,7 @@
 -- `simple::signal_type` meets its contract: the test is that of `typeIn`.
 -- Assumes nothing.
 use Rattle.octets.proofs.Pick.{picks, flags, some-is}
-use Rattle.bat.specs.Meaning.{allInside, valueIn, valueBy, readingIn}
+use Rattle.bat.specs.Meaning.{valueInside, valueIn, valueBy, decodingIn}
 use Rattle.bat.specs.Values.{typeIn}
 use borrow.Author.Needs.{needs}
 use Rattle.bat_read.proofs.simple.signal_type.Statement.{statement}
@@ -14,11 +14,11 @@ octet-at-requires : tie.Need-octet-at-requires
 octet-at-requires c κs = search needs
 
 returns : tie.Need-returns
-unfolding readingIn valueIn allInside valueBy typeIn
+unfolding decodingIn valueIn valueInside valueBy typeIn
 returns c = rw (c .octet-at .ensures) (search (some-is, picks, flags, needs))
 
 returns-2 : tie.Need-returns-2
-unfolding readingIn valueIn allInside valueBy typeIn
+unfolding decodingIn valueIn valueInside valueBy typeIn
 returns-2 c = search (some-is, picks, flags, needs)
 
 pub signal-type-spec : {M : Type 1} → statement M

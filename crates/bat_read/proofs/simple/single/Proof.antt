@@ -1,7 +1,7 @@
 -- `simple::single` meets its contract: the test is that of `singleIn`, and the span stands for what is behind the organisation.
 -- Assumes nothing.
 use Rattle.octets.proofs.Pick.{picks, flags, some-is}
-use Rattle.bat.specs.Meaning.{allInside, valueIn, valueBy, readingIn}
+use Rattle.bat.specs.Meaning.{valueInside, valueIn, valueBy, decodingIn}
 use Rattle.bat.specs.Values.{singleIn}
 use borrow.Author.Needs.{needs}
 use Rattle.bat_read.proofs.simple.single.Statement.{statement}
@@ -17,11 +17,11 @@ behind-requires : tie.Need-behind-requires
 behind-requires c κs = search needs
 
 returns : tie.Need-returns
-unfolding readingIn valueIn allInside valueBy singleIn
+unfolding decodingIn valueIn valueInside valueBy singleIn
 returns c = rw (c .behind .ensures .within, c .behind .ensures .is, c .before .octet-at .ensures) (search (some-is, picks, flags, needs))
 
 returns-2 : tie.Need-returns-2
-unfolding readingIn valueIn allInside valueBy singleIn
+unfolding decodingIn valueIn valueInside valueBy singleIn
 returns-2 c = search (some-is, picks, flags, needs)
 
 pub single-spec : {M : Type 1} → statement M

@@ -1,6 +1,6 @@
 -- `ranges::all_inside` meets its contract: what each arm tests are the spans of the value that its match names.
 -- Assumes nothing.
-use Rattle.bat.specs.Meaning.{allInside}
+use Rattle.bat.specs.Meaning.{valueInside}
 use Rattle.bat_write.proofs.InsideLaws.{inside-of}
 use borrow.Author.Needs.{needs}
 use Rattle.bat_write.proofs.ranges.all_inside.Statement.{statement}
@@ -76,63 +76,63 @@ enum-told-7 : tie.Need-enum-told-7
 enum-told-7 c = search needs
 
 returns : tie.Need-returns
-unfolding allInside
+unfolding valueInside
 returns c = search (inside-of, needs)
 
 returns-2 : tie.Need-returns-2
-unfolding allInside
+unfolding valueInside
 returns-2 c = search (inside-of, needs)
 
 returns-3 : tie.Need-returns-3
-unfolding allInside
+unfolding valueInside
 returns-3 c = search (inside-of, needs)
 
 returns-4 : tie.Need-returns-4
-unfolding allInside
+unfolding valueInside
 returns-4 c = search (inside-of, needs)
 
 returns-5 : tie.Need-returns-5
-unfolding allInside
+unfolding valueInside
 returns-5 c = search (inside-of, needs)
 
 returns-6 : tie.Need-returns-6
-unfolding allInside
+unfolding valueInside
 returns-6 c = search (inside-of, needs)
 
 returns-7 : tie.Need-returns-7
-unfolding allInside
+unfolding valueInside
 returns-7 c = search (inside-of, needs)
 
 returns-8 : tie.Need-returns-8
-unfolding allInside
+unfolding valueInside
 returns-8 c = search (inside-of, needs)
 
 returns-9 : tie.Need-returns-9
-unfolding allInside
+unfolding valueInside
 returns-9 c = search (inside-of, needs)
 
 returns-10 : tie.Need-returns-10
-unfolding allInside
+unfolding valueInside
 returns-10 c = search (inside-of, needs)
 
 returns-11 : tie.Need-returns-11
-unfolding allInside
+unfolding valueInside
 returns-11 c = search (inside-of, needs)
 
 returns-12 : tie.Need-returns-12
-unfolding allInside
+unfolding valueInside
 returns-12 c = search (inside-of, needs)
 
 returns-13 : tie.Need-returns-13
-unfolding allInside
+unfolding valueInside
 returns-13 c = search (inside-of, needs)
 
 returns-14 : tie.Need-returns-14
-unfolding allInside
+unfolding valueInside
 returns-14 c = search (inside-of, needs)
 
 returns-15 : tie.Need-returns-15
-unfolding allInside
+unfolding valueInside
 returns-15 c = search (inside-of, needs)
 
 pub all-inside-spec : {M : Type 1} → statement M

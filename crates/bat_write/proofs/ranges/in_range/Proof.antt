@@ -2,9 +2,9 @@
 -- Assumes nothing.
 use borrow.Author.Needs.{needs}
 use Rattle.bat.specs.Meaning.{valueBy}
-use Rattle.bat.specs.Writing.{inRange}
+use Rattle.bat.specs.Writing.{valueInRange}
 use Rattle.bat_write.proofs.RangeLaws.{ranging}
-use Rattle.bat_write.specs.Texts.{inRangeIn}
+use Rattle.bat_write.specs.Texts.{valueInRangeIn}
 use Rattle.bat_write.proofs.ranges.in_range.Statement.{statement}
 use Rattle.bat_write.proofs.ranges.in_range.Tie as tie
 
@@ -108,63 +108,63 @@ enum-told-3 : tie.Need-enum-told-3
 enum-told-3 c = search needs
 
 returns : tie.Need-returns
-unfolding valueBy inRangeIn inRange
+unfolding valueBy valueInRangeIn valueInRange
 returns c = search (ranging, needs)
 
 returns-2 : tie.Need-returns-2
-unfolding valueBy inRangeIn inRange
+unfolding valueBy valueInRangeIn valueInRange
 returns-2 c = search (ranging, needs)
 
 returns-3 : tie.Need-returns-3
-unfolding valueBy inRangeIn inRange
+unfolding valueBy valueInRangeIn valueInRange
 returns-3 c = search (ranging, needs)
 
 returns-4 : tie.Need-returns-4
-unfolding valueBy inRangeIn inRange
+unfolding valueBy valueInRangeIn valueInRange
 returns-4 c = search (ranging, needs)
 
 returns-5 : tie.Need-returns-5
-unfolding valueBy inRangeIn inRange
+unfolding valueBy valueInRangeIn valueInRange
 returns-5 c = search (ranging, needs)
 
 returns-6 : tie.Need-returns-6
-unfolding valueBy inRangeIn inRange
+unfolding valueBy valueInRangeIn valueInRange
 returns-6 c = search (ranging, needs)
 
 returns-7 : tie.Need-returns-7
-unfolding valueBy inRangeIn inRange
+unfolding valueBy valueInRangeIn valueInRange
 returns-7 c = search (ranging, needs)
 
 returns-8 : tie.Need-returns-8
-unfolding valueBy inRangeIn inRange
+unfolding valueBy valueInRangeIn valueInRange
 returns-8 c = search (ranging, needs)
 
 returns-9 : tie.Need-returns-9
-unfolding valueBy inRangeIn inRange
+unfolding valueBy valueInRangeIn valueInRange
 returns-9 c = search (ranging, needs)
 
 returns-10 : tie.Need-returns-10
-unfolding valueBy inRangeIn inRange
+unfolding valueBy valueInRangeIn valueInRange
 returns-10 c = search (ranging, needs)
 
 returns-11 : tie.Need-returns-11
-unfolding valueBy inRangeIn inRange
+unfolding valueBy valueInRangeIn valueInRange
 returns-11 c = search (ranging, needs)
 
 returns-12 : tie.Need-returns-12
-unfolding valueBy inRangeIn inRange
+unfolding valueBy valueInRangeIn valueInRange
 returns-12 c = search (ranging, needs)
 
 returns-13 : tie.Need-returns-13
-unfolding valueBy inRangeIn inRange
+unfolding valueBy valueInRangeIn valueInRange
 returns-13 c = search (ranging, needs)
 
 returns-14 : tie.Need-returns-14
-unfolding valueBy inRangeIn inRange
+unfolding valueBy valueInRangeIn valueInRange
 returns-14 c = search (ranging, needs)
 
 returns-15 : tie.Need-returns-15
-unfolding valueBy inRangeIn inRange
+unfolding valueBy valueInRangeIn valueInRange
 returns-15 c = search (ranging, needs)
 
 pub in-range-spec : {M : Type 1} → statement M

@@ -6,13 +6,13 @@ use mathlib.Core.Path.{_≡_}
 use lib.ListN.{take, drop}
 use borrow.Author.Needs.{needs}
 use Rattle.configuration.specs.Configuration.{allRight, rightCodecs}
-use Rattle.configuration.specs.Meaning.{codecsBy, allInside, configInside}
+use Rattle.configuration.specs.Meaning.{codecsBy, allFormatsInside, configInside}
 use Rattle.configuration.proofs.CheckLaws.{codecsRight}
 use Rattle.configuration.proofs.check.right_codecs.Statement.{statement}
 use Rattle.configuration.proofs.check.right_codecs.Tie as tie
 
 abbrev Inv-loop : tie.InvT-loop
-Inv-loop c n i₀ i = (allInside (drop i (take (c .count) (c .codecs))) && allRight (drop i (codecsBy c))) ≡ (configInside c && rightCodecs (codecsBy c))
+Inv-loop c n i₀ i = (allFormatsInside (drop i (take (c .count) (c .codecs))) && allRight (drop i (codecsBy c))) ≡ (configInside c && rightCodecs (codecsBy c))
 
 abbrev μ-loop : tie.MeasureT-loop
 μ-loop c n i₀ i = n - i

@@ -23,8 +23,8 @@ write-message-requires c κs = search needs
 enum-known-put : tie.Need-enum-known-put
 enum-known-put c = search needs
 
-accepted-requires : tie.Need-accepted-requires
-accepted-requires c κs = search (kept-restated, needs)
+request-right-requires : tie.Need-request-right-requires
+request-right-requires c κs = search (kept-restated, needs)
 
 enum-known-put-2 : tie.Need-enum-known-put-2
 enum-known-put-2 c = search needs
@@ -54,7 +54,7 @@ accept-spec =
     restate-requires-2
     write-message-requires
     enum-known-put
-    accepted-requires
+    request-right-requires
     enum-known-put-2
     refused-requires
     same-length

@@ -14,8 +14,8 @@ write-message-requires c κs = search needs
 enum-known-put : tie.Need-enum-known-put
 enum-known-put c = search needs
 
-confused-requires : tie.Need-confused-requires
-confused-requires c κs = search needs
+request-confused-requires : tie.Need-request-confused-requires
+request-confused-requires c κs = search needs
 
 enum-known-put-2 : tie.Need-enum-known-put-2
 enum-known-put-2 c = search needs
@@ -44,7 +44,7 @@ confuse-spec =
     slice-aggregate-write-message
     write-message-requires
     enum-known-put
-    confused-requires
+    request-confused-requires
     enum-known-put-2
     refused-requires
     same-length

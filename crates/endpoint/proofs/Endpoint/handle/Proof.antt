@@ -5,14 +5,14 @@ use Rattle.endpoint.proofs.EventLaws.{did-call}
 use Rattle.endpoint.proofs.Endpoint.handle.Statement.{statement}
 use Rattle.endpoint.proofs.Endpoint.handle.Tie as tie
 
-enum-known-call : tie.Need-enum-known-call
-enum-known-call c = search needs
+enum-known-event : tie.Need-enum-known-event
+enum-known-event c = search needs
 
 set-up-requires : tie.Need-set-up-requires
 set-up-requires c κs = search needs
 
-enum-known-call-2 : tie.Need-enum-known-call-2
-enum-known-call-2 c = search needs
+enum-known-event-2 : tie.Need-enum-known-event-2
+enum-known-event-2 c = search needs
 
 change-requires : tie.Need-change-requires
 change-requires c κs = search needs
@@ -81,9 +81,9 @@ pub handle-spec : {M : Type 1} → statement M
 handle-spec =
     tie.close
     (tie.spec
-    enum-known-call
+    enum-known-event
     set-up-requires
-    enum-known-call-2
+    enum-known-event-2
     change-requires
     enum-told
     release-requires

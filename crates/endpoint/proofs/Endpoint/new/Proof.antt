@@ -1,7 +1,7 @@
--- `Endpoint::new` meets its contract: the texts of a stream that says nothing lie inside any array.
+-- `Endpoint::new` meets its contract: every field is the fresh one.
 -- Assumes nothing.
 use borrow.Author.Needs.{needs}
-use Rattle.endpoint.proofs.VerdictLaws.{opens}
+use Rattle.endpoint.proofs.VerdictLaws.{creates}
 use Rattle.endpoint.proofs.Endpoint.new.Statement.{statement}
 use Rattle.endpoint.proofs.Endpoint.new.Tie as tie
 
@@ -12,7 +12,7 @@ check-requires : tie.Need-check-requires
 check-requires c κs = search needs
 
 returns : tie.Need-returns
-returns c = search (opens, needs)
+returns c = search (creates, needs)
 
 pub new-spec : {M : Type 1} → statement M
 new-spec = tie.close (tie.spec blank-stream-requires check-requires returns)

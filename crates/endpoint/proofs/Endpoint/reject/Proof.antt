@@ -14,8 +14,8 @@ write-message-requires c κs = search needs
 enum-known-put : tie.Need-enum-known-put
 enum-known-put c = search needs
 
-rejected-requires : tie.Need-rejected-requires
-rejected-requires c κs = search needs
+request-wrong-requires : tie.Need-request-wrong-requires
+request-wrong-requires c κs = search needs
 
 enum-known-put-2 : tie.Need-enum-known-put-2
 enum-known-put-2 c = search needs
@@ -44,7 +44,7 @@ reject-spec =
     slice-aggregate-write-message
     write-message-requires
     enum-known-put
-    rejected-requires
+    request-wrong-requires
     enum-known-put-2
     refused-requires
     same-length

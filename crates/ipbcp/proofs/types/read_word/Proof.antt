@@ -4,7 +4,7 @@ use borrow.Author.Needs.{needs}
 use Rattle.ipbcp.proofs.types.read_word.Statement.{statement}
 use Rattle.ipbcp.proofs.types.read_word.Tie as tie
 use Rattle.octets.proofs.Pick.{picks, flags}
-use Rattle.ipbcp.specs.Types.{wordOf, kindOf}
+use Rattle.ipbcp.specs.Types.{typeWord, typeNamed}
 use Rattle.ipbcp.specs.Meaning.{wordIn}
 
 slice-aggregate-equals : tie.Need-slice-aggregate-equals
@@ -14,7 +14,7 @@ equals-requires : tie.Need-equals-requires
 equals-requires c κs = search needs
 
 returns : tie.Need-returns
-unfolding wordIn kindOf wordOf
+unfolding wordIn typeNamed typeWord
 returns c = search (picks, flags, needs)
 
 slice-aggregate-equals-2 : tie.Need-slice-aggregate-equals-2
@@ -24,7 +24,7 @@ equals-requires-2 : tie.Need-equals-requires-2
 equals-requires-2 c κs = search needs
 
 returns-2 : tie.Need-returns-2
-unfolding wordIn kindOf wordOf
+unfolding wordIn typeNamed typeWord
 returns-2 c = search (picks, flags, needs)
 
 slice-aggregate-equals-3 : tie.Need-slice-aggregate-equals-3
@@ -34,7 +34,7 @@ equals-requires-3 : tie.Need-equals-requires-3
 equals-requires-3 c κs = search needs
 
 returns-3 : tie.Need-returns-3
-unfolding wordIn kindOf wordOf
+unfolding wordIn typeNamed typeWord
 returns-3 c = search (picks, flags, needs)
 
 slice-aggregate-equals-4 : tie.Need-slice-aggregate-equals-4
@@ -44,11 +44,11 @@ equals-requires-4 : tie.Need-equals-requires-4
 equals-requires-4 c κs = search needs
 
 returns-4 : tie.Need-returns-4
-unfolding wordIn kindOf wordOf
+unfolding wordIn typeNamed typeWord
 returns-4 c = search (picks, flags, needs)
 
 returns-5 : tie.Need-returns-5
-unfolding wordIn kindOf wordOf
+unfolding wordIn typeNamed typeWord
 returns-5 c = search (picks, flags, needs)
 
 pub read-word-spec : {M : Type 1} → statement M

@@ -4,7 +4,7 @@ use borrow.Author.Needs.{needs}
 use Rattle.ipbcp_write.proofs.lines.push_word.Statement.{statement}
 use Rattle.ipbcp_write.proofs.lines.push_word.Tie as tie
 use Rattle.ipbcp_write.proofs.LineLaws.{word-of}
-use Rattle.ipbcp.specs.Types.{wordOf}
+use Rattle.ipbcp.specs.Types.{typeWord}
 
 enum-told : tie.Need-enum-told
 enum-told c = search needs
@@ -46,28 +46,28 @@ same-length : tie.Need-same-length
 same-length c = search needs
 
 returns : tie.Need-returns
-unfolding wordOf
+unfolding typeWord
 returns c = search (word-of, needs)
 
 same-length-2 : tie.Need-same-length-2
 same-length-2 c = search needs
 
 returns-2 : tie.Need-returns-2
-unfolding wordOf
+unfolding typeWord
 returns-2 c = search (word-of, needs)
 
 same-length-3 : tie.Need-same-length-3
 same-length-3 c = search needs
 
 returns-3 : tie.Need-returns-3
-unfolding wordOf
+unfolding typeWord
 returns-3 c = search (word-of, needs)
 
 same-length-4 : tie.Need-same-length-4
 same-length-4 c = search needs
 
 returns-4 : tie.Need-returns-4
-unfolding wordOf
+unfolding typeWord
 returns-4 c = search (word-of, needs)
 
 pub push-word-spec : {M : Type 1} → statement M

@@ -4,7 +4,7 @@ use borrow.Author.Needs.{needs}
 use Rattle.ipbcp_write.proofs.ranges.right_body.Statement.{statement}
 use Rattle.ipbcp_write.proofs.ranges.right_body.Tie as tie
 use Rattle.ipbcp_write.proofs.RangeLaws.{right-of}
-use Rattle.ipbcp_write.specs.Parts.{rightBody}
+use Rattle.ipbcp_write.specs.Parts.{writableBody}
 
 enum-known-body : tie.Need-enum-known-body
 enum-known-body c = search needs
@@ -25,19 +25,19 @@ enum-told-2 : tie.Need-enum-told-2
 enum-told-2 c = search needs
 
 returns : tie.Need-returns
-unfolding rightBody
+unfolding writableBody
 returns c = search (right-of, needs)
 
 returns-2 : tie.Need-returns-2
-unfolding rightBody
+unfolding writableBody
 returns-2 c = search (right-of, needs)
 
 returns-3 : tie.Need-returns-3
-unfolding rightBody
+unfolding writableBody
 returns-3 c = search (right-of, needs)
 
 returns-4 : tie.Need-returns-4
-unfolding rightBody
+unfolding writableBody
 returns-4 c = search (right-of, needs)
 
 pub right-body-spec : {M : Type 1} → statement M

@@ -4,7 +4,7 @@ use borrow.Author.Needs.{needs}
 use Rattle.ipbcp_write.proofs.ranges.right_stream.Statement.{statement}
 use Rattle.ipbcp_write.proofs.ranges.right_stream.Tie as tie
 use Rattle.octets.proofs.Pick.{picks, flags}
-use Rattle.ipbcp_write.specs.Parts.{rightStream}
+use Rattle.ipbcp_write.specs.Parts.{writableStream}
 
 stream-inside-requires : tie.Need-stream-inside-requires
 stream-inside-requires c κs = search needs
@@ -16,15 +16,15 @@ right-attributes-requires : tie.Need-right-attributes-requires
 right-attributes-requires c κs = search needs
 
 returns : tie.Need-returns
-unfolding rightStream
+unfolding writableStream
 returns c = search (picks, flags, needs)
 
 returns-2 : tie.Need-returns-2
-unfolding rightStream
+unfolding writableStream
 returns-2 c = search (picks, flags, needs)
 
 returns-3 : tie.Need-returns-3
-unfolding rightStream
+unfolding writableStream
 returns-3 c = search (picks, flags, needs)
 
 pub right-stream-spec : {M : Type 1} → statement M

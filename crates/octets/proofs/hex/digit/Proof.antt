@@ -11,14 +11,14 @@ use Rattle.octets.proofs.hex.digit.Tie as tie
 returns : tie.Need-returns
 returns c = search (digits, needs)
 
-sub-result : tie.Need-sub-result
-sub-result c = search needs
-
 returns-2 : tie.Need-returns-2
 returns-2 c = search (digits, needs)
 
-sub-result-2 : tie.Need-sub-result-2
-sub-result-2 c = search needs
+add-result : tie.Need-add-result
+add-result c = search needs
+
+add-result-2 : tie.Need-add-result-2
+add-result-2 c = search needs
 
 returns-3 : tie.Need-returns-3
 returns-3 c = search (digits, needs)
@@ -31,4 +31,4 @@ returns-4 c =
     (λ h. ⊎-elim (λ w. omega (arith, leb-false)) (λ w. omega arith) (c .if5 .came))
 
 pub digit-spec : {M : Type 1} → statement M
-digit-spec = tie.close (tie.spec returns sub-result returns-2 sub-result-2 returns-3 returns-4)
+digit-spec = tie.close (tie.spec returns add-result returns-2 add-result-2 returns-3 returns-4)

@@ -4,13 +4,13 @@ use Prim.Native.Nat.{_≤_}
 use mathlib.Core.Path.{_≡_}
 use lib.ListN.{length, drop}
 use borrow.Author.Needs.{needs}
-use Rattle.octets.specs.Split.{splitOn, partOf}
+use Rattle.octets.specs.Split.{splitOn, partAt}
 use Rattle.octets.proofs.PartLaws.{picking}
 use Rattle.octets.proofs.parts.part.Statement.{statement}
 use Rattle.octets.proofs.parts.part.Tie as tie
 
 abbrev Inv-loop : tie.InvT-loop
-Inv-loop s c k i₀ left₀ i left = (i ≤ length s) × (partOf left (splitOn c (drop i s)) ≡ partOf k (splitOn c s))
+Inv-loop s c k i₀ left₀ i left = (i ≤ length s) × (partAt left (splitOn c (drop i s)) ≡ partAt k (splitOn c s))
 
 abbrev μ-loop : tie.MeasureT-loop
 μ-loop s c k i₀ left₀ i left = left

@@ -20,8 +20,8 @@ slice-aggregate-read-line c = search needs
 read-line-requires : tie.Need-read-line-requires
 read-line-requires c κs = search needs
 
-enum-known-call : tie.Need-enum-known-call
-enum-known-call c = search needs
+enum-known-event : tie.Need-enum-known-event
+enum-known-event c = search needs
 
 enum-told : tie.Need-enum-told
 enum-told c = search needs
@@ -62,7 +62,7 @@ run-spec =
     after-requires
     slice-aggregate-read-line
     read-line-requires
-    enum-known-call
+    enum-known-event
     enum-told
     pass-requires
     same-length

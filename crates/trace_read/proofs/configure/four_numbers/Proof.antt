@@ -1,7 +1,7 @@
 -- `configure::four_numbers` meets its contract. The code reads the fields in the definition's order.
 -- Assumes nothing.
 use borrow.Author.Needs.{needs}
-use Rattle.trace_read.specs.Steps.{fourOf}
+use Rattle.trace_read.specs.Steps.{fourNumbers}
 use Rattle.trace_read.proofs.ConfigureLaws.{onSmalls}
 use Rattle.trace_read.proofs.configure.four_numbers.Statement.{statement}
 use Rattle.trace_read.proofs.configure.four_numbers.Tie as tie
@@ -16,7 +16,7 @@ enum-told : tie.Need-enum-told
 enum-told c = search needs
 
 returns : tie.Need-returns
-unfolding fourOf
+unfolding fourNumbers
 returns c = search (onSmalls, needs)
 
 small-number-requires-2 : tie.Need-small-number-requires-2
@@ -29,7 +29,7 @@ enum-told-2 : tie.Need-enum-told-2
 enum-told-2 c = search needs
 
 returns-2 : tie.Need-returns-2
-unfolding fourOf
+unfolding fourNumbers
 returns-2 c = search (onSmalls, needs)
 
 small-number-requires-3 : tie.Need-small-number-requires-3
@@ -42,7 +42,7 @@ enum-told-3 : tie.Need-enum-told-3
 enum-told-3 c = search needs
 
 returns-3 : tie.Need-returns-3
-unfolding fourOf
+unfolding fourNumbers
 returns-3 c = search (onSmalls, needs)
 
 small-number-requires-4 : tie.Need-small-number-requires-4
@@ -55,11 +55,11 @@ enum-told-4 : tie.Need-enum-told-4
 enum-told-4 c = search needs
 
 returns-4 : tie.Need-returns-4
-unfolding fourOf
+unfolding fourNumbers
 returns-4 c = search (onSmalls, needs)
 
 returns-5 : tie.Need-returns-5
-unfolding fourOf
+unfolding fourNumbers
 returns-5 c = search (onSmalls, needs)
 
 pub four-numbers-spec : {M : Type 1} → statement M

@@ -2,7 +2,7 @@
 -- Assumes nothing.
 use borrow.Author.Needs.{needs}
 use Rattle.octets.proofs.DecimalLaws.{onNumbers}
-use Rattle.trace_read.specs.Steps.{threeOf}
+use Rattle.trace_read.specs.Steps.{threeNumbers}
 use Rattle.trace_read.proofs.events.three_numbers.Statement.{statement}
 use Rattle.trace_read.proofs.events.three_numbers.Tie as tie
 
@@ -34,19 +34,19 @@ enum-told-3 : tie.Need-enum-told-3
 enum-told-3 c = search needs
 
 returns : tie.Need-returns
-unfolding threeOf
+unfolding threeNumbers
 returns c = search (onNumbers, needs)
 
 returns-2 : tie.Need-returns-2
-unfolding threeOf
+unfolding threeNumbers
 returns-2 c = search (onNumbers, needs)
 
 returns-3 : tie.Need-returns-3
-unfolding threeOf
+unfolding threeNumbers
 returns-3 c = search (onNumbers, needs)
 
 returns-4 : tie.Need-returns-4
-unfolding threeOf
+unfolding threeNumbers
 returns-4 c = search (onNumbers, needs)
 
 pub three-numbers-spec : {M : Type 1} → statement M

@@ -1,9 +1,9 @@
--- `Endpoint::accepted` meets its contract: the bearer is settled, and the octets are those that were written.
+-- `Endpoint::request_right` meets its contract: the bearer is settled, and the octets are those that were written.
 -- Assumes nothing.
 use borrow.Author.Needs.{needs}
 use Rattle.endpoint.proofs.VerdictLaws.{gave-accepted}
-use Rattle.endpoint.proofs.Endpoint.accepted.Statement.{statement}
-use Rattle.endpoint.proofs.Endpoint.accepted.Tie as tie
+use Rattle.endpoint.proofs.Endpoint.request_right.Statement.{statement}
+use Rattle.endpoint.proofs.Endpoint.request_right.Tie as tie
 
 by-state-requires : tie.Need-by-state-requires
 by-state-requires c κs = search needs
@@ -17,5 +17,5 @@ settling-requires c κs = search needs
 returns : tie.Need-returns
 returns c = search (gave-accepted, needs)
 
-pub accepted-spec : {M : Type 1} → statement M
-accepted-spec = tie.close (tie.spec by-state-requires drops-requires settling-requires returns)
+pub request-right-spec : {M : Type 1} → statement M
+request-right-spec = tie.close (tie.spec by-state-requires drops-requires settling-requires returns)
