@@ -13,9 +13,9 @@ use Rattle.media.specs.Meaning.{streamBy, streamInside, streamIn}
 use Rattle.ipbcp.specs.Reading.{mostRead}
 use Rattle.configuration.specs.Configuration.{mostName}
 use Rattle.bearer.specs.declared.Request.{Request}
-use Rattle.bearer.specs.declared.Bearer as code
+use Rattle.bearer.specs.declared.Bearer as held
 use Rattle.bearer.specs.declared.Heard as answer
-use Rattle.bearer.specs.declared.Heard.the-variants as answer
+use Rattle.bearer.specs.declared.Heard.the-variants as heard
 use Rattle.bearer.specs.Bearer.{Bearer}
 use Rattle.bearer.specs.Hearing.{Heard, nothingHeard, otherVersionHeard, requestHeard, acceptedHeard, declineHeard}
 
@@ -26,14 +26,14 @@ mostOffered = 12 + mostName
 unfoldable pub requestBy : Request → Stream
 requestBy q = streamBy (q .text) (q .stream)
 
-unfoldable pub bearerBy : code.Bearer → Bearer
+unfoldable pub bearerBy : held.Bearer → Bearer
 bearerBy b = record { address = b .address; stream = streamBy (b .text) (b .stream) }
 
 -- their texts lie inside the array beside them
 abbrev pub requestInside : Request → Bool
 requestInside q = streamInside (q .text) (q .stream)
 
-abbrev pub bearerInside : code.Bearer → Bool
+abbrev pub bearerInside : held.Bearer → Bool
 bearerInside b = streamInside (b .text) (b .stream)
 
 -- the bearer that a message names, whose texts are in the message
@@ -41,16 +41,16 @@ unfoldable pub namedBy : List ℕ → Address → Places → Bearer
 namedBy m a s = record { address = a; stream = streamBy m s }
 
 unfoldable pub heardIn : List ℕ → answer.Heard → Option Heard
-heardIn m answer.Unreadable = some nothingHeard
-heardIn m answer.OtherRequest = some otherVersionHeard
-heardIn m answer.BadRequest = some (requestHeard none)
-heardIn m (answer.Request a s) = Option·map (λ (t : Stream). requestHeard (some (record { address = a; stream = t }))) (streamIn m s)
-heardIn m answer.BadAccepted = some (acceptedHeard none)
-heardIn m (answer.Accepted a s) = Option·map (λ (t : Stream). acceptedHeard (some (record { address = a; stream = t }))) (streamIn m s)
-heardIn m answer.Declined = some declineHeard
+heardIn m heard.Unreadable = some nothingHeard
+heardIn m heard.OtherRequest = some otherVersionHeard
+heardIn m heard.BadRequest = some (requestHeard none)
+heardIn m (heard.Request a s) = Option·map (λ (t : Stream). requestHeard (some (record { address = a; stream = t }))) (streamIn m s)
+heardIn m heard.BadAccepted = some (acceptedHeard none)
+heardIn m (heard.Accepted a s) = Option·map (λ (t : Stream). acceptedHeard (some (record { address = a; stream = t }))) (streamIn m s)
+heardIn m heard.Declined = some declineHeard
 
 -- a bearer with the octets of m, as far as there is room, and zeros behind them
-abbrev pub bearerAs : Address → Places → List ℕ → code.Bearer
+abbrev pub bearerAs : Address → Places → List ℕ → held.Bearer
 bearerAs a s m = record { address = a; stream = s; text = appended (replicate mostRead 0) 0 m }
 
 -- the bearer in force, where one is
