@@ -66,8 +66,8 @@ digits=$(printf '%016370d' 0)
 line "elements 1 0 $digits" refused-1
 bad "elements 1 10 $digits"
 bad "elements 1 0 $digits$digits"
-# The program goes on after a bad line. The values follow from the document: data over 2,048 octets is
-# refused by 1, no element by 2, two elements by 3, a compatibility over 255 by 5, and a refusal of the data
+# The program goes on after a bad line. The values follow from the document: data over 2,048 octets is refused by
+# 1. In rewrite, no element is refused by 2, two by 3, a compatibility over 255 by 5, and a refusal of the data
 # comes first.
 line 'elements 1 1 01828108' 'neither 1 1/0/4/action=8 listed=-'
 line 'elements 1 65535 -' 'neither 0 listed=-'

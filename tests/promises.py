@@ -39,7 +39,7 @@ def names(text):
 
 # ---- the code
 def functions_in(path):
-    """The public functions of a file: the name within the crate, and all that stands between it and the body."""
+    """The public functions of a file: the name within the crate, and everything between it and the body."""
     text = re.sub(r"(?m)^\s*//.*$", "", read(path))
     module = os.path.basename(path)[:-3]
     for found in re.finditer(r'(?m)^( *)pub (?:extern "C" )?fn (\w+)', text):
