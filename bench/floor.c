@@ -1,8 +1,8 @@
 /*
- * floor: a trace with no card. Looks for the LF of each line of standard input, makes octets of the digits after an M,
- * and prints the line's number and a text that is as long as what bearertrace prints there on average, in the trace of
- * trace.txt. Nothing is checked, no message is read and no state is kept: any program that reads these lines and
- * prints such answers does as much.
+ * floor: a trace without the card. Finds the LF of each line of standard input, decodes the digits after an M, and
+ * prints the line's number and a text that is as long as what bearertrace prints on average for the trace of
+ * trace.txt. It checks nothing, reads no message and keeps no state: any program that reads these lines and prints
+ * such answers does at least this.
  */
 #include <string.h>
 #include <unistd.h>
@@ -17,7 +17,7 @@ static unsigned char value[256];
 /* Not static, so that they are stored. */
 unsigned char octets[ROOM / 2];
 
-/* The octets of so many digits. */
+/* The octets of n digits. */
 static void decode(const char *digits, size_t n)
 {
     for (size_t i = 0; i + 1 < n; i += 2)

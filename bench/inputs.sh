@@ -1,5 +1,5 @@
 # shellcheck shell=bash
-# Sourced by the scripts beside it: makes the inputs of the benchmarks, of messages.txt and trace.txt.
+# Sourced by the other scripts: makes the inputs of the benchmarks from messages.txt and trace.txt.
 bench=$(dirname "${BASH_SOURCE[0]}")
 
 # message NAME: the octets of that message
@@ -8,7 +8,7 @@ message() {
         /^(#|\[|$)/ { on = $0 == head; next }
         on { gsub(/\\r/, "\r"); gsub(/\\n/, "\n"); printf "%s", $0 }' "$bench/messages.txt"
 }
-# trace N: the configuration and N events, the round of trace.txt again and again
+# trace N: the configuration and N events, repeating the round of trace.txt
 trace() {
     awk -v n="$1" '
         BEGIN { for (i = 1; i < 128; i++) digits[sprintf("%c", i)] = sprintf("%02X", i) }

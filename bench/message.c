@@ -1,11 +1,11 @@
 /*
- * message FILE TURNS: has the message in FILE read, so many times; prints the answer, which must be the same each time.
- * What reads it is chosen when this is built:
- *   CARD    the card's reader: the number of the refusal, 256 for a version and type alone, or 1000 and the port
- *   OSIP    libosip2's parser, its answer freed: 1 where the message is taken
+ * message FILE TURNS: reads the message in FILE TURNS times; prints the answer, which must be the same each time. The
+ * reader is chosen when this is built:
+ *   CARD    the card's reader: the number of the refusal, 256 for a version and type alone, or 1000 plus the port
+ *   OSIP    libosip2's parser, its answer freed: 1 if the message is accepted
  *   SOFIA   Sofia-SIP's parser, the same
  *   OCTETS  no reader: looks at each octet once, and counts the line ends
- *   MEMCHR  the same by the C library's memchr, which looks at many octets at once
+ *   MEMCHR  the same with the C library's memchr, which looks at many octets at once
  */
 #include <stdio.h>
 #include <stdlib.h>
@@ -26,7 +26,7 @@ static unsigned answer(const char *text, size_t octets)
 #include <osipparser2/osip_port.h>
 #include <osipparser2/sdp_message.h>
 
-/* Its texts end in 0, so the length is not asked for. */
+/* Its texts end in 0, so it needs no length. */
 static unsigned answer(const char *text, size_t octets)
 {
     sdp_message_t *m;
@@ -42,7 +42,7 @@ static unsigned answer(const char *text, size_t octets)
 #elif defined SOFIA
 #include <sofia-sip/sdp.h>
 
-/* With no memory pool of the caller's, which would cost some 2,000 instructions more. */
+/* Without a memory pool of the caller's, which would cost some 2,000 more instructions. */
 static unsigned answer(const char *text, size_t octets)
 {
     sdp_parser_t *p = sdp_parse(NULL, text, (issize_t)octets, 0);
@@ -77,7 +77,7 @@ static unsigned answer(const char *text, size_t octets)
 int main(int argc, char **argv)
 {
     static char room[ROOM];
-    /* Read anew at each turn, so that no turn is left out. */
+    /* Loaded again at each turn, so that the compiler leaves no turn out. */
     const char *volatile text = room;
     FILE *file = argc == 3 ? fopen(argv[1], "rb") : NULL;
     size_t octets;

@@ -1,15 +1,15 @@
 #!/usr/bin/env bash
 # message.sh: how many instructions it takes to read a message, as a table: the card's reader (card_message, a static
-# library), libosip2 and Sofia-SIP where they are installed, and how many times the card's instructions they take, and two passes over
-# the octets that only look for line ends. callgrind counts two runs of different length, and what one message more
-# takes is their difference. No part of the gate. Needs valgrind and a C compiler beside rt; the parsers need
+# library); libosip2 and Sofia-SIP, if they are installed, and how many times the card's instructions they take; and two
+# passes over the octets that only look for line ends. callgrind counts two runs of different length, and their
+# difference gives the cost of one message. Not part of the gate. Needs rt, valgrind and a C compiler; the parsers need
 # pkg-config (apt-get install libosip2-dev libsofia-sip-ua-dev).
 set -euo pipefail
 root=$(cd "$(dirname "$0")/.." && pwd)
 . "$root/bench/inputs.sh"
 short=1000
 long=2000
-# the messages: name, octets, and the card's answer: 1000 and the port, 256 for a type alone, or a refusal
+# the messages: name, octets, and the card's answer: 1000 plus the port, 256 for a type alone, or a refusal
 messages=(request:171:5000 longest:512:5000 confused:85:256 wrong:170:10)
 work=$(mktemp -d)
 trap 'rm -rf "$work"' EXIT
@@ -22,7 +22,7 @@ log=$(cd "$root" && rt staticlib card_message 2>&1) || {
 build() {
     cc -std=c11 -O2 -Wall -Wextra "-D$1" "$root/bench/message.c" "${@:2}" -o "$work/$1"
 }
-# count READER FILE TURNS: the instructions of such a run; its answer is left in $work/answer
+# count READER FILE TURNS: the instructions of such a run; leaves its answer in $work/answer
 count() {
     valgrind --tool=callgrind --callgrind-out-file=/dev/null "$work/$1" "$2" "$3" 2>&1 > "$work/answer" |
         sed -n 's/.*Collected *: *//p'

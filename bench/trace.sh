@@ -1,13 +1,13 @@
 #!/usr/bin/env bash
-# trace.sh: how many instructions bearertrace takes for an event, how long, and how much memory, as a table; beside it
-# floor.c, which reads the same lines and prints as much, with no card. callgrind counts two runs of different length,
-# and what an event more takes is their difference. Time is that of the whole run, the least of several. No part of the
-# gate. Needs valgrind and a C compiler beside rt, and Linux.
+# trace.sh: how many instructions bearertrace takes for an event, how long, and how much memory, as a table; and for
+# comparison floor.c, which reads the same lines and prints as much, without the card. callgrind counts two runs of
+# different length, and their difference gives the cost of one event. Time is that of the whole run, the least of
+# several. Not part of the gate. Needs rt, valgrind, a C compiler and Linux.
 set -euo pipefail
 export LC_ALL=C
 root=$(cd "$(dirname "$0")/.." && pwd)
 . "$root/bench/inputs.sh"
-# events of a round of trace.txt, and how many of them are no events
+# lines of a round of trace.txt, and how many of them are not events
 round=100
 bad_lines=2
 # events of the runs that are counted
@@ -35,7 +35,7 @@ count() {
     valgrind --tool=callgrind --callgrind-out-file=/dev/null "$1" < "$work/$2" 2>&1 > /dev/null |
         sed -n 's/.*Collected *: *//p'
 }
-# took PROGRAM EVENTS TIMES: nanoseconds an event, in the fastest of so many runs
+# took PROGRAM EVENTS TIMES: nanoseconds an event, in the fastest of TIMES runs
 took() {
     local least=0 start now turn
     for ((turn = 0; turn < $3; turn++)); do
@@ -46,14 +46,14 @@ took() {
     done
     echo $((least * 1000 / $2))
 }
-# memory PROGRAM EVENTS: the most KiB that it has held when all of the trace has gone into its pipe
+# memory PROGRAM EVENTS: the peak of its memory in KiB, once all of the trace has gone into its pipe
 memory() {
     "$1" < "$work/pipe" > /dev/null &
     { cat "$work/$2"; awk '/^VmHWM/ { print $2 }' "/proc/$!/status" >&3; } 3>&1 > "$work/pipe"
     wait
 }
 bearertrace=$root/target/bin/bearertrace
-# A line for each event, after that of the names. A round has two bad lines and ends idle, so that all rounds are alike.
+# A line for each event, after the line of field names. A round has two bad lines and ends idle, so all rounds are alike.
 "$bearertrace" < "$work/$few" > "$work/printed"
 lines=$(wc -l < "$work/printed")
 bad=$(grep -c ' bad ' "$work/printed")
@@ -62,7 +62,7 @@ if [ "$lines $bad $last" != "$((few + 1)) $((few / round * bad_lines)) idle" ]; 
     echo "bearertrace prints $lines lines for $few events, of which $bad are bad, and ends $last" >&2
     exit 1
 fi
-# The floor prints as much, to one in a hundred.
+# The floor prints as much, to within one per cent.
 octets=$(wc -c < "$work/printed")
 floor=$("$work/floor" < "$work/$few" | wc -c)
 if [ $((floor * 100 / octets)) -lt 99 ] || [ $((floor * 100 / octets)) -gt 100 ]; then

@@ -18,15 +18,15 @@ struct bat_entry {
     size_t length;
 };
 
-/* An answer from here on is a refusal: this, and its number. */
+/* An answer from here on is a refusal: this plus its number. */
 #define BAT_TABLE_REFUSED 65536
 
 /*
- * Stores an entry for each element of the data at the front of the table, in order, and answers how
- * many there are; entries beyond them stay as they were. Data that can't be used is refused, by 1
- * where it has more than 2,048 octets, by 2 where it can't be framed, by 3 where it has more elements
- * than the table has entries; then the answer is BAT_TABLE_REFUSED and the number, and the table stays
- * as it was. Neither pointer is NULL, and the table and the data do not overlap.
+ * Stores an entry for each element of the data at the front of the table, in order, and returns how
+ * many there are; later entries stay as they were. Data is refused by 1 if it has more than 2,048
+ * octets, by 2 if it can't be framed, and by 3 if it has more elements than the table has entries; then
+ * the function returns BAT_TABLE_REFUSED plus the number, and the table stays as it was. Neither pointer
+ * may be NULL, and the table and the data must not overlap.
  */
 size_t bat_table_store(const uint8_t *data, size_t octets, struct bat_entry *table, size_t entries);
 

@@ -1,6 +1,6 @@
 #!/usr/bin/env bash
-# appendix-lines.sh: prints the messages of tests/appendix as lines for inspect, each in three forms: as
-# it stands, with the colon and the blank of the field rule, and as version 1 (the README there says why).
+# appendix-lines.sh: prints the messages of tests/appendix as lines for inspect, each in three forms: unchanged,
+# with the colon and the blank of the field rule, and as version 1 (the README there says why).
 set -eu
 cd "$(dirname "$0")"
 . ./hex.sh

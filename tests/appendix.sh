@@ -1,7 +1,7 @@
 #!/usr/bin/env bash
-# appendix.sh [PROGRAM]: gives the Recommendation's own examples (tests/appendix) to inspect and compares
-# what comes out with the answers beside them. PROGRAM is the built inspect, target/bin/inspect unless
-# given. Ends with status 1 where a line differs.
+# appendix.sh [PROGRAM]: gives the Recommendation's own examples (tests/appendix) to inspect and compares its
+# answers with those next to the examples. PROGRAM is the built inspect (default: target/bin/inspect). Ends with
+# status 1 if a line differs.
 set -u
 . "$(dirname "$0")/program.sh" inspect "${1:-}"
 cd "$(dirname "$0")" || exit 2

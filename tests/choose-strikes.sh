@@ -1,7 +1,7 @@
 #!/usr/bin/env bash
 # choose-strikes.sh: writes crates/examples/proofs/Outside.antt, which the gate checks: what an outside program's book
-# keeps of each trace of tests/vectors/traces. Each event stands there as the verdict that the outside answer
-# shows (N.octets: notice and octets written), and what is kept is N.book's. No answer is taken from this repository's
+# keeps of each trace of tests/vectors/traces. Each event is given as the verdict that the outside answer shows
+# (N.octets: notice and octets written), and what is kept comes from N.book. No answer comes from this repository's
 # code.
 set -eu
 cd "$(dirname "$0")/.."
@@ -14,7 +14,7 @@ cases() {
     for book in $(ls tests/vectors/traces/*.book | sort -V); do
         if [ "$(wc -l < "$book")" -gt 1 ]; then echo "${book%.book}"; fi
     done | while read -r trace; do
-        # the line of field names goes; a line that is no event is none of the book's
+        # leave out the line of field names; the book has no verdict on a line that is not an event
         tail -n +2 "$trace.octets" | paste -d' ' "$trace.book" - | awk -v trace="$(basename "$trace")" '
             $1 == "none" { next }
             {

@@ -1,8 +1,9 @@
 #!/usr/bin/env bash
 # choose-traces.sh: writes crates/traces/args, data and stdout, which the gate runs: every tenth trace of
-# tests/vectors/plain-traces and tests/vectors/traces with those whose configuration is refused or whose last line has no
-# LF, and the answers that stand there; some of them again, read one octet at a time; then short traces whose answers
-# are written by hand from document 01. And crates/tracedetail/stdin and stdout, a short one. No answer is taken from a program of this repository.
+# tests/vectors/plain-traces and tests/vectors/traces and those whose configuration is refused or whose last line has no
+# LF, with their answers; some of them again, read one octet at a time; then short traces whose answers are written by
+# hand from document 01. Also writes crates/tracedetail/stdin and stdout, a short trace. No answer comes from a program
+# of this repository.
 set -eu
 cd "$(dirname "$0")/.."
 . tests/hex.sh
@@ -26,7 +27,7 @@ outside() {
         { echo "== $letter$n" && cat "tests/vectors/$kind/$n.$ending"; } >> $crate/stdout
     done
 }
-# own NAME INPUT LINE..: the trace that printf makes of INPUT, and the lines that it prints
+# own NAME INPUT LINE..: the trace that printf makes of INPUT, and the lines to be printed
 own() {
     printf "$2" > "$crate/data/$1"
     echo "$1" >> $crate/args
@@ -37,11 +38,11 @@ own() {
 head='n event state notice dropped written'
 G='G\t192.0.2.10\t4000\t10\t40\t5\t5\n'
 K='K\t8\n'
-# letters N: so many letters
+# letters N: N letters
 letters() {
     printf "%0$1d" 0 | tr 0 x
 }
-# digits N: so many zeros
+# digits N: N zeros
 digits() {
     printf "%0$1d" 0
 }
@@ -49,7 +50,7 @@ digits() {
 message() {
     printf '%s\r\n' "$@" | hex
 }
-# octets LINE..: how many octets they are
+# octets LINE..: how many octets that message has
 octets() {
     printf '%s\r\n' "$@" | wc -c
 }
@@ -104,7 +105,7 @@ done
 own k-late "$G${K}X\n${K}${G}X\n" "$head" '1 X idle refused-11 no 0' '2 bad idle refused-13 no 0' '3 bad idle refused-13 no 0' \
     '4 X idle refused-11 no 0'
 
-# ---- lines that are no events, one kind each: each is numbered, and the run goes on
+# ---- lines that are not events, one of each kind: each is numbered, and the run goes on
 bads=('' ' ' 'hello' 'x' 'X ' ' X' 'X\t' 'X\t1' 'X\r' 'T3' 'T' 'T11' 'T1\t' 'U' 'U\t' 'U\t1\t8' 'U\t1\t8\t20\t' 'U\t1\t8\t20\t0'
     'U 1 8 20' 'u\t1\t8\t20' 'U\t01\t8\t20' 'U\t1\t08\t20' 'U\t1\t8\t020' 'U\t1\t8\t00' 'U\t65536\t8\t20' 'U\t1\t65536\t20'
     'U\t1\t8\t65536' 'U\t1\t8\t' 'U\t-1\t8\t20' 'U\t+1\t8\t20' 'U\t1\t8\tx' 'UC\t1\t8\t20' 'C\t1\t8' 'M' 'm\t' 'M\t6' 'M\t6G' 'M\t 61'
@@ -117,13 +118,13 @@ for bad in "${bads[@]}"; do
     lines+=("${#lines[@]} bad idle refused-13 no 0")
 done
 own bads "$trace" "${lines[@]}"
-# A last line that no LF ends is bad, whatever it says; one that is empty is none.
+# A last line without LF is bad, whatever it says; an empty one is not a line.
 own cut "$G${K}U\t1\t8\t20\nX" "$head" '1 U await-setup none no 120' '2 bad await-setup refused-13 no 0'
 
 # Our own Request, with no packet time.
 offered=(v=0 'o=- 0 0 IN IP4 192.0.2.10' 's= ' 'c=IN IP4 192.0.2.10' 't=0 0' 'a=ipbcp:1 Request' 'm=audio 4000 RTP/AVP 8')
 
-# ---- commands and timers where they don't suit, and numbers out of range: 11 comes before 5
+# ---- commands and timers that don't suit the state, and numbers out of range: 11 comes before 5
 own commands "$G${K}T1\nT2\nX\nC\t1\t8\t20\nC\t0\t8\t20\nU\t0\t8\t20\nU\t2\t8\t20\nU\t65535\t65535\t65535\nU\t1\t9\t20\nU\t1\t8\t9\nU\t1\t8\t41\nU\t1\t8\t0\nU\t0\t0\t0\nT2\nC\t1\t8\t20\nX\n" \
     "$head" '1 T1 idle discarded no 0' '2 T2 idle discarded no 0' '3 X idle refused-11 no 0' '4 C idle refused-11 no 0' \
     '5 C idle refused-11 no 0' '6 U idle refused-5 no 0' '7 U idle refused-5 no 0' '8 U idle refused-5 no 0' '9 U idle refused-5 no 0' \
@@ -172,7 +173,7 @@ n1=$(printf %s "$f1" | hex)
 n2=$(printf %s "$f2" | hex)
 own longest "G\t$own\t65535\t1\t255\t30\t1\nK\t$name\nM\t$(message "${peer[@]}")\n" "$head" \
     "1 M up up no 447 $(message "${ours[@]}") 2::2;5000;audio;RTP/AVP;127;$(printf %s "$name" | hex);$n1,$n1,$n2;255"
-# Texts of fmtp that are empty, and an rtpmap for a payload that is known by its number.
+# Empty fmtp texts, and an rtpmap for a payload that is configured by its number.
 own texts "$G${K}M\t$(message "${request[@]}" a=fmtp: 'a=rtpmap:8 x' a=fmtp:)\nX\n" "$head" \
     "1 M up up no $((written + $(octets 'a=rtpmap:8 x' a=fmtp: a=fmtp:))) $(message "${accepted[@]}" 'a=rtpmap:8 x' a=fmtp: a=fmtp:) 198.51.100.7;6000;audio;RTP/AVP;8;78;empty,empty;0" \
     '2 X idle released no 0 - -'

@@ -1,8 +1,8 @@
 #!/usr/bin/env bash
-# choose.sh: writes crates/inspect/stdin and crates/inspect/stdout, which the gate runs. Every fifth
-# line of each mode in tests/vectors, from the first on, with the answer that stands there; the examples
-# in tests/appendix; then lines whose answers are written by hand from the format and from document 01:
-# bad ones, one kind each, and the edges of each mode. No answer is taken from inspect's output.
+# choose.sh: writes crates/inspect/stdin and crates/inspect/stdout, which the gate runs: every fifth line of
+# each mode in tests/vectors, from the first on, with its answer; the examples in tests/appendix; then lines
+# whose answers are written by hand from the format and from document 01: bad ones, one of each kind, and the
+# edges of each mode. No answer comes from inspect's output.
 set -eu
 cd "$(dirname "$0")/.."
 . tests/hex.sh
@@ -27,14 +27,14 @@ bad() {
     line "$1" bad-line
 }
 
-# No mode, or none that there is.
+# No mode, or one that does not exist.
 bad ''
 bad ' '
 bad '1 1 01828108'
 bad 'element 1 1 01828108'
 bad 'ELEMENTS 1 1 01828108'
 bad ' elements 1 1 01828108'
-# Fields that are missing, or one too many, or empty.
+# A missing field, one too many, or an empty one.
 bad 'elements'
 bad 'elements 1 1'
 bad 'elements 1 1 '
@@ -43,7 +43,7 @@ bad 'elements 1 1 01828108 '
 bad 'elements 1 1 01828108 00'
 bad 'rewrite 9 5'
 bad 'rewrite 9 5 01828108 1'
-# A CR is no part of a line's end.
+# A CR is not part of a line's end.
 bad $'elements 1 1 01828108\r'
 # Digits: an odd number of them, or none.
 bad 'elements 1 1 0182810'
@@ -66,8 +66,8 @@ digits=$(printf '%016370d' 0)
 line "elements 1 0 $digits" refused-1
 bad "elements 1 10 $digits"
 bad "elements 1 0 $digits$digits"
-# The program goes on behind a bad line. The values follow from the document: data over 2,048 octets
-# is refused by 1, what is no element or two by 2 and 3, a compatibility over 255 by 5, and the data
+# The program goes on after a bad line. The values follow from the document: data over 2,048 octets is refused by
+# 1. In rewrite, no element is refused by 2, two by 3, a compatibility over 255 by 5, and a refusal of the data
 # comes first.
 line 'elements 1 1 01828108' 'neither 1 1/0/4/action=8 listed=-'
 line 'elements 1 65535 -' 'neither 0 listed=-'
@@ -119,7 +119,7 @@ bad 'address IP6 3A3A31'
 bad 'address - 3A3A31'
 bad 'address 5 -'
 
-# Tunnel: 6 before all else, then 7, whatever the error bits, then notice, whatever is strange.
+# Tunnel: 6 comes first, then 7, whatever the error bits, then notice, whatever version and protocol.
 line 'tunnel 2 -' refused-6
 line 'tunnel 0 -' refused-6
 line 'tunnel 2 20' refused-6
@@ -167,7 +167,7 @@ message() {
     shift
     line "message $(printf '%s\r\n' "$@" | hex)" "$answer"
 }
-# letters N: so many letters
+# letters N: N letters
 letters() {
     printf "%0$1d" 0 | tr 0 x
 }
@@ -193,7 +193,7 @@ message refused-8 "${right[@]}" "i=$(letters 402)"
 octets refused-9 "$(letters 512)"
 octets refused-8 "$(letters 513)"
 
-# Number 9: lines. Each ends, has a lower-case letter and `=`, and no 0 and no CR behind it.
+# Number 9: lines. Each has an end, a lower-case letter and `=`, and no 0 or CR after that.
 line 'message -' refused-9
 octets '1 Confused' 'a=ipbcp:1 Confused\n'
 octets refused-9 'a=ipbcp:1 Confused'
@@ -240,7 +240,7 @@ message '10 Confused' 'a=ipbcp:10 Confused'
 message '1 Confused' "$m" 'a=ipbcp:1 Confused' 'v=7'
 message '1 Rejected' 'a=ipbcp:1 Rejected' 'a=ipbcp:1 Request'
 
-# Number 10: each line once and in its order. Other lines are skipped, wherever they stand.
+# Number 10: each line once and in its order. Other lines are skipped, wherever they are.
 message "$said - - 0" "${right[@]}"
 message "1 Accepted $front - - 0" "$v" "$o" "$s" "$c" "$t" 'a=ipbcp: 1 Accepted' "$m"
 message refused-10 "$request"
@@ -304,7 +304,7 @@ message refused-10 "${session[@]}" 'm=audio 4000 RTP/AVP 08'
 message refused-10 "${session[@]}" 'm=audio 4000 RTP/AVP 8 0'
 message refused-10 "${session[@]}" 'm=audio 4000 RTP/AVP'
 message refused-10 "${session[@]}" 'm=audio 4000  8'
-# The attributes: behind m=, in any order, so many of each. AMR/8000 and mode-set=7 in digits.
+# The attributes: after m=, in any order, no more of each than allowed. AMR/8000 and mode-set=7 in digits.
 amr=414D522F38303030
 mode=3936206D6F64652D7365743D37
 message "$said $amr $mode 20" "${right[@]}" 'a=rtpmap:96 AMR/8000' 'a=fmtp:96 mode-set=7' 'a=ptime:20'

@@ -1,10 +1,10 @@
 #!/usr/bin/env bash
 # faults.sh [INSPECT [BEARERTRACE [TRACEDETAIL]]]: faults of input and output. Gives each program input that is closed,
 # can't be read, is empty, is cut at every octet, comes an octet at a time, is interrupted or is not there yet; and
-# output that is full, closed, limited, has no reader or a slow one. Each time the program ends by itself, says on
-# standard error what has failed and nothing else, and what it prints is right, or the front of what is right where the
-# output is not taken (docs/DECISIONS.md, "Failures of input and output"). The programs are the built ones in target/bin unless given. Ends
-# with status 1 where something is wrong. No part of the gate; needs Linux and Python.
+# output that is full, closed, limited, has no reader or a slow one. Each time the program must end by itself, say on
+# standard error what has failed and nothing else, and print the right answers, or the first octets of them if the
+# output is not taken (docs/DECISIONS.md, "Failures of input and output"). The programs are the built ones (default: in
+# target/bin). Ends with status 1 if something is wrong. Not part of the gate; needs Linux and Python.
 set -u
 export LC_ALL=C
 cd "$(dirname "$0")/.." || exit 2
@@ -17,10 +17,10 @@ for name in inspect bearertrace tracedetail; do
 done
 work=$(mktemp -d)
 trap 'rm -rf "$work"' EXIT
-# What a program says on standard error where a read fails, and where its output is not taken.
+# What a program says on standard error if a read fails, and if its output is not taken.
 unread="the input can't be read"
 untaken='the output was not taken'
-# Seconds in which a program has to end.
+# The most seconds that a program may take.
 limit=20
 checks=0
 status=0
@@ -46,7 +46,7 @@ ended() {
         wrong "$1: says '$(head -c 200 "$work/err")' on standard error, not '${4:-}'"
     fi
 }
-# printed WHAT FILE: what was printed is what stands in FILE.
+# printed WHAT FILE: what was printed is the contents of FILE.
 printed() {
     checks=$((checks + 1))
     cmp -s "$work/out" "$2" || wrong "$1: prints something else: $(diff -a "$2" "$work/out" | head -3 | cut -c1-200)"
@@ -68,8 +68,8 @@ end_of() {
 }
 
 # What each program is given, and what is right: a sample, and an input whose answers are too many for a pipe to hold.
-# No answer of inspect or bearertrace is a program's of this repository; those of tracedetail are its own, with
-# bearertrace's as first columns.
+# The answers of inspect and bearertrace do not come from this repository's programs; those of tracedetail are its own,
+# with bearertrace's as first columns.
 prepare_inspect() {
     local mode
     cp samples/inspect.txt "$work/inspect.in"
@@ -79,7 +79,7 @@ prepare_inspect() {
         cat "tests/vectors/$mode.out" >> "$work/inspect.long-right"
     done
 }
-# The sample's answers, so many times over.
+# The sample's answers, repeated.
 trace_answers() {
     echo 'n event state notice dropped written'
     for ((i = 0; i < $1; i++)); do
@@ -139,7 +139,7 @@ octet_by_octet() {
     ended 'an octet at a time' "${PIPESTATUS[1]}" 0
     printed 'an octet at a time' "$work/$name.right"
 }
-# want_front LINES PART ANSWER: what is right for so many whole lines and a part of the next. In inspect that part is
+# want_front LINES PART ANSWER: what is right for LINES whole lines and a part of the next. In inspect that part is
 # answered as a line; in a trace it is bad, or spoils the configuration, which has three lines.
 want_front() {
     local last events=$(($1 - 3))

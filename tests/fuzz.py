@@ -1,7 +1,7 @@
 #!/usr/bin/env python3
-"""fuzz.py LINES SEED CHECKED INSPECT BEARERTRACE TRACEDETAIL: gives LINES lines, made by chance from the lines of
-tests/vectors and samples, to the three programs, and judges what they answer. tests/fuzz.sh, which calls it, says
-what is looked at. The same SEED gives the same lines. CHECKED lines more are given to the programs under valgrind."""
+"""fuzz.py LINES SEED CHECKED INSPECT BEARERTRACE TRACEDETAIL: gives LINES random lines, made from the lines of
+tests/vectors and samples, to the three programs, and judges their answers. tests/fuzz.sh, which calls it, says what
+is checked. The same SEED gives the same lines. CHECKED more lines are given to the programs under valgrind."""
 import collections
 import contextlib
 import os
@@ -15,15 +15,15 @@ import textwrap
 import threading
 import time
 
-# Nothing is left behind beside the tests.
+# Leave no files next to the tests.
 sys.dont_write_bytecode = True
 import model  # noqa: E402
 
-# Seconds in which a program has to end, with some thousand lines to answer.
+# The most seconds that a program may take for some thousand lines.
 LIMIT = 30
-# Seconds that are spent on making an input shorter with which a program fails.
+# The most seconds spent on shortening an input that a program fails on.
 NARROWING = 100
-# From so many lines on, every kind of answer has to be met.
+# From this many lines on, every kind of answer has to come up.
 ENOUGH = 500000
 INSPECT_BATCH = 2000
 
@@ -34,7 +34,7 @@ EDGES = (b"0", b"1", b"2", b"3", b"4", b"6", b"00", b"01", b"7", b"8", b"9", b"1
 ODD_OCTETS = b"\x00\x01\x09\x0a\x0b\x0d\x20\x2d\x2f\x30\x39\x3a\x40\x41\x46\x47\x5a\x61\x66\x67\x7f\x80\x81\xa0\xfe\xff"
 
 
-# ---- changes by chance
+# ---- random changes
 
 def touch(rng, s):
     """s with one change somewhere."""
@@ -71,7 +71,7 @@ def touched(rng, s, most=3):
 
 
 def maybe(rng, chance, change, s):
-    """change(s) with that chance, else s."""
+    """change(s) with that chance, otherwise s."""
     return change(rng, s) if rng.random() < chance else s
 
 
@@ -88,7 +88,7 @@ def digits(rng, data):
 
 
 def shown(rng, data):
-    """The octets as a field of inspect, `-` for none; the digits are odd at times."""
+    """The octets as a field of inspect, `-` for none; sometimes with an odd number of digits."""
     text = digits(rng, data) or rng.choice((b"-", b"-", b"-", b""))
     return text[:-1] if rng.random() < 0.01 else text
 
@@ -105,7 +105,7 @@ def stretch(rng, line):
 
 
 def separate(rng, line):
-    """line with its separators exchanged, or with octets that no line has."""
+    """line with other separators, or with octets that no line has."""
     what = rng.randrange(7)
     if what == 0:
         return line.replace(b" ", b"\t") if b" " in line else line.replace(b"\t", b" ")
@@ -149,7 +149,7 @@ def refield(rng, line, separator):
 # ---- elements
 
 def element(rng, ident, contents):
-    """A whole element with these contents; its length is right, but seldom is not."""
+    """A whole element with these contents; its length is rarely wrong."""
     compat = rng.choice((0, 1, 2, 3, 4, 5, 6, 0x10, 0x20, 0x30, 0x50, 0x60, 0x7F, rng.randrange(128)))
     more = rng.randrange(1, 4) if rng.random() < 0.1 else 0
     front = bytes([compat] + [rng.randrange(128) for _ in range(more)])
@@ -173,7 +173,7 @@ def codec(rng):
 
 
 def contents_of(rng, ident):
-    """Contents that an element of this identifier can have, or just can't."""
+    """Contents that an element of this identifier can have, or just misses."""
     octet = bytes([rng.choice((0, 1, 4, 5, 11, 12, 15, 16, 24, 25, 63, 64, 83, 84, 128, 255, rng.randrange(256)))])
     if ident == 4:
         inner = [element(rng, 5 if rng.random() < 0.97 else rng.randrange(256), codec(rng))
@@ -206,7 +206,7 @@ def some_element(rng):
 
 
 def application_data(rng):
-    """Elements one behind the other, at times about as many octets as there may be."""
+    """Elements one after the other, sometimes with about as many octets as allowed."""
     size = rng.random()
     if size < 0.006:
         return element(rng, rng.choice((2, 4, 6, 8, 10, 224)), rng.randbytes(2044 + rng.randrange(-6, 6)))
@@ -217,7 +217,7 @@ def application_data(rng):
 
 
 def reframed(rng, data):
-    """data with the contents of one element changed and its length set right again."""
+    """data with the contents of one element changed and its length corrected."""
     framed = model.frame_data(data)
     if isinstance(framed, str) or not framed:
         return touched(rng, data)
@@ -259,7 +259,7 @@ Said = collections.namedtuple("Said", "kind version family address port media tr
 
 
 def some_said(rng):
-    """What a message says, by chance; each field is wrong at times."""
+    """What a message says, at random; each field is sometimes wrong."""
     family = rng.choice((4, 6))
     payload = rng.choice((0, 8, 18, 95, 96, 97, 127, 127, rng.randrange(128), rng.randrange(130)))
     rtpmap = rng.choice((None, None, b"AMR/8000", b"telephone-event/8000", b" x", b"n" * rng.randrange(232, 244)))
@@ -296,7 +296,7 @@ WRONG = (b"x=1", b"a=ipbcp:1 Request", b"a=rtpmap:8 PCMA/8000", b"a=fmtp:", b"a=
 
 
 def reline(rng, lines):
-    """lines with one of them changed, moved, doubled, left out or put in."""
+    """lines with one of them changed, moved, doubled, left out or added."""
     lines = list(lines)
     i = rng.randrange(len(lines))
     what = rng.randrange(8)
@@ -314,7 +314,7 @@ def reline(rng, lines):
 
 
 def joined(rng, lines):
-    """The lines as one message, each with one of the two ends; at times about as long as a message may be."""
+    """The lines as one message, each with one of the two ends; sometimes about as long as a message may be."""
     end = rng.choice((b"\r\n", b"\r\n", b"\n"))
     text = b"".join(line + (end if rng.random() < 0.97 else b"\n") for line in lines)
     if rng.random() < 0.04:
@@ -354,7 +354,7 @@ def front(rng, mode):
 
 
 def built(rng, _):
-    """A line made from nothing, so that it goes deep."""
+    """A line made from scratch, so that it gets far into the program."""
     mode = rng.choice((b"elements", b"elements", b"rewrite", b"tunnel", b"message", b"message", b"address"))
     if mode == b"elements":
         data = application_data(rng)
@@ -372,7 +372,7 @@ def built(rng, _):
 
 
 def rewrapped(rng, seeds):
-    """A seed whose octets are changed, by the rules of what they are, and written as digits again."""
+    """A seed whose octets are changed, according to what they are, and written as digits again."""
     line = rng.choice(seeds)
     fields = line.split(b" ")
     try:
@@ -417,7 +417,7 @@ def inspect_seeds(root):
 
 
 def inspect_batch(rng, seeds, count):
-    """So many lines as one input; the last has no LF half of the time."""
+    """That many lines as one input; half of the time the last has no LF."""
     makers = [m for _, m in INSPECT_MAKERS]
     weights = [w for w, _ in INSPECT_MAKERS]
     made = [make(rng, seeds) for make in rng.choices(makers, weights, k=count)]
@@ -425,7 +425,7 @@ def inspect_batch(rng, seeds, count):
     return data if rng.random() < 0.5 else data + b"\n"
 
 
-# ---- one endpoint, as document 01 has it; it shares no code with the card's
+# ---- one endpoint, by document 01; shares no code with the card's
 
 Own = collections.namedtuple("Own", "family address port least most codecs")
 AUDIO, AVP = b"audio".hex().upper(), b"RTP/AVP".hex().upper()
@@ -460,7 +460,7 @@ PREFIX = re.compile(rb"B\t(0|[1-9][0-9]*)\t(.*)\Z", re.S)
 
 
 def read_event(line, whole, detailed):
-    """-> kind, length of the output buffer, and the numbers or the octets behind the kind."""
+    """-> kind, length of the output buffer, and the numbers or the octets after the kind."""
     room, event = 2048, line
     found = PREFIX.match(line) if detailed and len(line) <= 4096 else None
     if found:
@@ -480,7 +480,7 @@ def read_event(line, whole, detailed):
 
 
 def heard(data):
-    """Version, type and fields (None where a line is wrong) of a message; None where its type can't be read."""
+    """Version, type and fields (None if a line is wrong) of a message; None if its type can't be read."""
     text = model.message(data)
     if text in ("refused-8", "refused-9"):
         return None
@@ -537,7 +537,7 @@ class Endpoint:
         return "released", b"", False
 
     def fail(self):
-        """The attempt that is open has failed."""
+        """The open attempt has failed."""
         setup = self.state == "await-setup"
         self.state = "idle" if setup else "up"
         return "setup-failed" if setup else "change-failed", b"", False
@@ -646,7 +646,7 @@ class Trace:
         return True
 
     def begin(self):
-        """The configuration is whole."""
+        """The configuration is complete."""
         if self.own is None or not self.own.codecs:
             return self.refuse()
         self.printed.append("n event state notice dropped written")
@@ -691,7 +691,7 @@ def expected(data, detailed):
 # ---- traces
 
 class Maker:
-    """Makes the lines of a trace, with an eye on what the endpoint awaits, so that they go deep."""
+    """Makes the lines of a trace that follow what the endpoint awaits, so that they get far into the program."""
 
     def __init__(self, rng, seeds, prefixed):
         self.rng, self.seeds, self.prefixed = rng, seeds, prefixed
@@ -739,7 +739,7 @@ class Maker:
         return lines
 
     def suiting(self):
-        """A command that suits the configuration, but for its number at times."""
+        """A command that suits the configuration, sometimes except for its number."""
         rng, own = self.rng, self.trace.own
         entry = rng.randrange(len(own.codecs))
         codec_ = own.codecs[entry]
@@ -754,7 +754,7 @@ class Maker:
         return b"\t".join([letter] + numbers)
 
     def said(self, kind, payload, rtpmap):
-        """What the peer says, right but for one field at times."""
+        """What the peer says, right but sometimes for one field."""
         rng, own = self.rng, self.trace.own
         ptime = rng.choice((None, None, b"%d" % own.least, b"%d" % own.most, b"1", b"255"))
         fmtp = [b"%s %d" % (payload, i) for i in range(rng.choice((0, 0, 0, 1, 3)))]
@@ -786,7 +786,7 @@ class Maker:
         return b"M\t" + digits(rng, text)
 
     def long(self):
-        """A message or a line of about as many octets as may be."""
+        """A message or a line of about as many octets as allowed."""
         rng = self.rng
         if rng.random() < 0.5:
             return stretch(rng, self.message())
@@ -816,7 +816,7 @@ class Maker:
                            b"G\t192.0.2.10\t4000\t10\t40\t5\t5", b"B", b"B\t", b"B\t512\t", b"\xff\xfe"))
 
     def lent(self, line):
-        """line, behind the length of an output buffer at times."""
+        """line, sometimes after the length of an output buffer."""
         if not self.prefixed or self.rng.random() < 0.5:
             return line
         length = self.rng.choice((b"512", b"2048", b"65535", b"65536") + EDGES)
@@ -827,7 +827,7 @@ class Maker:
 
 
 def make_trace(rng, seeds, count):
-    """A trace of about so many lines, and what tracedetail prints for it."""
+    """A trace of about that many lines, and what tracedetail prints for it."""
     maker = Maker(rng, seeds, rng.random() < 0.5)
     lines = maker.configure()
     if rng.random() < (0.5 if count < 10 else 0.02):
@@ -858,7 +858,7 @@ def trace_seeds(root):
     return lines
 
 
-# ---- the forms of the answers
+# ---- the formats of the answers
 
 N = r"(?:0|[1-9][0-9]*)"
 W = r"[1-9][0-9]*"
@@ -903,7 +903,7 @@ SHORT = tuple((kind, STATES, "refused-4", "no", "0") for kind in ("U", "C", "X",
 
 
 def trace_form(answers, rest):
-    """The lines of these answers, each with `rest` behind it."""
+    """The lines of these answers, each with `rest` after it."""
     count = {"0": "0", "+": W, "*": N}
     forms = ["%s (?:%s) %s %s %s" % (kind, "|".join(states), notice, dropped, count[written])
              for kind, states, notice, dropped, written in answers]
@@ -915,14 +915,14 @@ PLAIN_FORM = trace_form(ANSWERS, "")
 DETAIL_FORM = trace_form(ANSWERS + SHORT, " (?:-|%s+) (?:-|%s)" % (X, BEARER))
 
 
-# Lines that inspect answers by `bad-line`.
+# Lines that inspect answers with `bad-line`.
 BAD_LINES = (b"", b"no", b"\0", b"message 0", b"x" * 16384, b"y" * 70000)
 
 
 # ---- runs
 
 class Fault(Exception):
-    """What is wrong, with the number of the input's line from 0, where there is one."""
+    """What is wrong, with the number of the input's line, from 0, if there is one."""
 
     def __init__(self, what, line=None):
         super().__init__(what)
@@ -931,7 +931,7 @@ class Fault(Exception):
 
 @contextlib.contextmanager
 def giving(data):
-    """A fault in here comes with this input, which is another than that of the batch."""
+    """A fault in here is reported with this input instead of that of the batch."""
     try:
         yield
     except Fault as fault:
@@ -945,7 +945,7 @@ def read(root, name):
 
 
 def run(argv, data):
-    """What the program prints; it ends by itself, with status 0 and silently."""
+    """What the program prints; it must end by itself, with status 0 and without a word on standard error."""
     try:
         done = subprocess.run(argv, input=data, capture_output=True, timeout=LIMIT)
     except subprocess.TimeoutExpired:
@@ -1026,7 +1026,7 @@ def check_inspect(argv, data, tally=None):
 
 
 def configuring(lines):
-    """How many lines configure: the first, and those of `K` behind it."""
+    """How many lines configure: the first, and those of `K` after it."""
     front = 1
     while front < len(lines) and lines[front].split(b"\t")[0] == b"K":
         front += 1
@@ -1034,7 +1034,7 @@ def configuring(lines):
 
 
 def check_form(got, data, detailed):
-    """The lines of a trace program have the right form, numbers and counts."""
+    """The lines of a trace program have the right format, numbers and counts."""
     if got == ["refused-12"]:
         return
     form = DETAIL_FORM if detailed else PLAIN_FORM
@@ -1067,13 +1067,13 @@ def check_trace(argv, data, detailed, want):
 
 
 def bad_line(rng, detailed):
-    """A line that is bad wherever it stands behind the configuration."""
+    """A line that is bad anywhere after the configuration."""
     return rng.choice((b"", b"hello", b"G", b"M\t0", b"U\t1\t8", b"\0", b"X\r", b"M\t" + b"0" * 1198, b"x" * 70000,
                        b"B\t512\tX" if not detailed else b"B\t0512\tX", b"T1 ", b"\xff" * 4097))
 
 
 def with_bad(rng, head, body, bad):
-    """body with bad lines put in; and for each line whether it was there."""
+    """body with bad lines added; and for each line whether it was there before."""
     out, there = list(head), [True] * len(head)
     for line in body:
         if rng.random() < 0.1:
@@ -1085,7 +1085,7 @@ def with_bad(rng, head, body, bad):
 
 
 def narrow(head, lines, fails):
-    """A part of lines, found by halves, with which it still fails."""
+    """A part of lines, found by halving, that still fails."""
     until = time.time() + NARROWING
     while len(lines) > 1 and time.time() < until:
         half = len(lines) // 2
@@ -1098,7 +1098,7 @@ def narrow(head, lines, fails):
     return b"\n".join(head + lines) + b"\n"
 
 
-# ---- what was met
+# ---- what came up
 
 def tally_inspect(tally, mode, answer):
     words = answer.split(" ")
@@ -1163,7 +1163,7 @@ class Fuzz:
         return random.Random("/".join(str(n) for n in (self.seed,) + names))
 
     def keep(self, name, fault, data):
-        """Tells of the fault and keeps the input."""
+        """Reports the fault and keeps the input."""
         self.kept = self.kept or tempfile.mkdtemp(prefix="fuzz-")
         place = os.path.join(self.kept, name + ".in")
         with open(place, "wb") as f:
@@ -1238,7 +1238,7 @@ class Fuzz:
                 self.counts[name + " lines among bad ones"] += len(got) - 1
 
     def among_bad(self, rng, argv, detailed, data, got):
-        """Bad lines put in behind the configuration change the numbers of the later lines and nothing else."""
+        """Bad lines added after the configuration change the numbers of the later lines and nothing else."""
         parts = cut(data)
         lines = [line for line, whole in parts if whole]
         front = len(parts) - (len(got) - 1)
@@ -1285,7 +1285,7 @@ class Fuzz:
         return narrow(head, lines[len(head):], fails)
 
     def valgrind_part(self, count):
-        """So many lines more, under valgrind: it says nothing, and the answers are the same. (The built
+        """That many more lines, under valgrind: it says nothing, and the answers are the same. (The built
         programs have no address sanitizer in them. Valgrind needs none, but can't tell arrays on the stack apart.)"""
         if not shutil.which("valgrind"):
             print("valgrind is not installed: no line is run under it")
@@ -1309,7 +1309,7 @@ class Fuzz:
         return True
 
     def report(self, whole):
-        """What was met; False where some kind of answer was not, in a run that is long enough for all."""
+        """What came up; False if some kind of answer did not, in a run that is long enough for all."""
         for name, count in self.counts.items():
             print("%8d %s" % (count, name))
         complete = True

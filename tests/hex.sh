@@ -1,4 +1,4 @@
-# Sourced by the scripts beside it. hex: the octets of standard input as digits.
+# Sourced by the other scripts. hex: the octets of standard input as digits.
 hex() {
     od -An -v -tx1 | tr -d ' \n' | tr a-f A-F
 }

@@ -1,10 +1,9 @@
 #!/usr/bin/env python3
-"""What inspect should answer, modes elements, rewrite, tunnel, message and address. Shares no code with the
-card. What it says of elements was written from document 01 and its readings without sight of the card's
-code; so was what it says of tunnel packets, messages and addresses. Two
-points of the line format are not its own: that numbers have no leading zero, and how long a line may be,
-are set as docs/DECISIONS.md reads them, so agreement on those two is no evidence. Reads lines on standard
-input, prints one answer for each."""
+"""What inspect should answer in the modes elements, rewrite, tunnel, message and address. Shares no code with the
+card: its rules were written from document 01 and the readings of it, without sight of the card's code. Two points
+of the line format are not its own: that numbers have no leading zero, and how long a line may be, follow
+docs/DECISIONS.md, so agreement on those two is not evidence. Reads lines on standard input and prints one answer for
+each."""
 import re
 import sys
 
@@ -245,10 +244,10 @@ def tunnel(buffer, data):
     # the peer reports an error: tell the user, send nothing back
     if one & 0x40 or two & 0x40:
         return "notice"
-    # strange version first, and then the protocol goes back unmarked
+    # unknown version first, and then the protocol goes back unmarked
     if version != 0:
         reply = bytes([0x60, protocol])
-    # strange protocol
+    # unknown protocol
     elif protocol != 32:
         reply = bytes([0x20, 0x40 | protocol])
     # BCTP version 1 with IPBCP inside; what is left may be nothing
@@ -274,7 +273,7 @@ def right(cond):
 
 
 def number(t, low, high):
-    """Decimal octets with no leading zero, in the range -> value, else None."""
+    """Decimal octets with no leading zero, in the range -> value, otherwise None."""
     if not t or any(o not in b"0123456789" for o in t):
         return None
     if t[0] == 0x30 and len(t) > 1:
@@ -287,7 +286,7 @@ def number(t, low, high):
 
 
 def ip4(t):
-    """Dotted form -> four values, else None."""
+    """Dotted form -> four values, otherwise None."""
     parts = t.split(b".")
     if len(parts) != 4:
         return None
@@ -301,7 +300,7 @@ def ip4(t):
 
 
 def groups(t):
-    """Groups parted by single colons -> values; nothing at all is no groups; else None."""
+    """Groups with single colons between them -> values; an empty text is no groups; otherwise None."""
     if not t:
         return []
     out = []
@@ -314,7 +313,7 @@ def groups(t):
 
 
 def ip6(t):
-    """Colon form -> eight values, else None."""
+    """Colon form -> eight values, otherwise None."""
     sides = t.split(b"::")
     # the gap may be used once
     if len(sides) > 2:
@@ -361,7 +360,7 @@ def show6(values):
 
 
 def read_address(family, t):
-    """family: 4 or 6 -> address as written, else None."""
+    """family: 4 or 6 -> address as written, otherwise None."""
     values = ip4(t) if family == 4 else ip6(t)
     if values is None:
         return None
@@ -402,10 +401,10 @@ def version_and_type(lines):
     if not known:
         raise Unreadable
     rest = known[0][len(IPBCP):]
-    # a blank behind the colon is optional
+    # a blank after the colon is optional
     if rest.startswith(b" "):
         rest = rest[1:]
-    # version, blank, type, and there the line ends
+    # version, blank, type, end of line
     words = rest.split(b" ")
     if len(words) != 2 or words[1] not in TYPES:
         raise Unreadable
@@ -423,11 +422,11 @@ def tokens(t, count):
 
 
 def known_line(l):
-    """What a line is to the reader: its letter, an attribute it knows, or None where it is skipped."""
+    """What a line is to the reader: its letter, an attribute it knows, or None if it is skipped."""
     if l[:1] in (b"i", b"u", b"e", b"p", b"b", b"z", b"k", b"r"):
         return None
     if l[:1] == b"a":
-        # with the colon; other attributes are nobody's business
+        # with the colon; other attributes are ignored
         for name in (IPBCP, RTPMAP, FMTP, PTIME):
             if l.startswith(name):
                 return name
@@ -436,13 +435,13 @@ def known_line(l):
 
 
 def description(lines):
-    """The lines of a version 1 Request or Accepted -> the fields behind the type."""
+    """The lines of a version 1 Request or Accepted -> the fields after the type."""
     kept = [(known_line(l), l) for l in lines]
     kept = [k for k in kept if k[0] is not None]
     # the seven that must be there, each once, in their order, ahead of the three attributes
     right([k[0] for k in kept[:7]] == [b"v", b"o", b"s", b"c", b"t", IPBCP, b"m"])
     v, o, s, c, t, _, m = [k[1][2:] for k in kept[:7]]
-    # behind them the three attributes and nothing else
+    # after them the three attributes and nothing else
     tail = kept[7:]
     right(all(k[0] in (RTPMAP, FMTP, PTIME) for k in tail))
 
@@ -459,7 +458,7 @@ def description(lines):
     where = read_address(4 if family == b"IP4" else 6, words[2])
     right(where is not None)
 
-    # times: digits, as many as one likes, zeros in front too
+    # times: any number of digits, leading zeros too
     for run in tokens(t, 2):
         right(all(d in b"0123456789" for d in run))
 
@@ -478,7 +477,7 @@ def description(lines):
         text = maps[0][len(front):]
         right(text != b"")
 
-    # fmtp: three at most, nothing asked of what they say
+    # fmtp: three at most, with any text
     formats = [l[len(FMTP):] for kind, l in tail if kind == FMTP]
     right(len(formats) <= 3)
 
@@ -503,7 +502,7 @@ def message(data):
     except Unreadable:
         return "refused-9"
     head = "%d %s" % (version, kind.decode())
-    # strange versions and the two short answers are not read further
+    # other versions and the two short answers are not read further
     if version != 1 or kind in (b"Confused", b"Rejected"):
         return head
     try:
@@ -516,7 +515,7 @@ DEC = re.compile(rb"(?:0|[1-9][0-9]*)\Z")
 HEX = re.compile(rb"(?:[0-9A-Fa-f]{2})+\Z")
 
 
-# mode word -> how many fields stand behind it; the octets are always the last
+# mode word -> how many fields follow it; the octets are always the last
 FIELDS = {b"elements": 3, b"rewrite": 3, b"tunnel": 2, b"message": 1, b"address": 2}
 
 
@@ -551,7 +550,7 @@ def answer(line):
 
 
 if __name__ == "__main__":
-    # a line may hold a number longer than Python reads unasked
+    # a line may hold a number longer than Python reads by default
     if hasattr(sys, "set_int_max_str_digits"):
         sys.set_int_max_str_digits(0)
     text = sys.stdin.buffer.read()

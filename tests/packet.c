@@ -1,22 +1,22 @@
 /*
- * packet: has messages read and written again inside tunnel packets, by card_packet_rewrite. Each line of
- * standard input has the octets of a message in hex, `-` where there are none; the answer is the packet in
- * hex, `-` where the message is a version and a type alone, or `refused-N`.
+ * packet: reads messages and writes them again inside tunnel packets, with card_packet_rewrite. Each line of
+ * standard input has the octets of a message in hex, `-` if there are none; the answer is the packet in hex,
+ * `-` if only the version and the type of the message are read, or `refused-N`.
  */
 #include <stdint.h>
 #include <stdio.h>
 #include <stdlib.h>
 #include <string.h>
 
-/* An answer from here on is a refusal: this, and its number. */
+/* An answer from here on is a refusal: this plus its number. */
 #define REFUSED 65536
 
-/* Octets of the buffer that is lent for a packet. */
+/* Octets of the buffer for a packet. */
 #define ROOM 2048
 
 size_t card_packet_rewrite(const uint8_t *message, size_t octets, uint8_t *packet, size_t room);
 
-/* How many octets the digits stand for, which are put in their place; ends the program where they are none. */
+/* Replaces digits by their octets and answers how many; ends the program if they are not digits. */
 static size_t read_digits(char *line)
 {
     size_t n = strcmp(line, "-") == 0 ? 0 : strlen(line);

@@ -1,5 +1,5 @@
-# Sourced by the scripts beside it, with the name of a program and where it is: sets `program` to that place, or
-# to the built program where none is given, and ends where there is none.
+# Sourced by the other scripts, with the name of a program and its path: sets `program` to that path, or to the
+# built program if no path is given, and ends if there is no such program.
 program=$(realpath -m "${2:-$(dirname "${BASH_SOURCE[0]}")/../target/bin/$1}")
 if [ ! -x "$program" ]; then
     echo "no program $program (rt check $1 builds it)" >&2

@@ -1,14 +1,14 @@
 #!/usr/bin/env bash
 # samples.sh [BEARERTRACE [INSPECT]]: compares what the programs print for samples/ with what README.md and
 # docs/PROGRAMS.md say that they print. In the table of docs/PROGRAMS.md `..` stands for digits that are left out. The
-# programs are the built ones in target/bin unless given. Ends with status 1 where a line differs.
+# programs are the built ones (default: in target/bin). Ends with status 1 if a line differs.
 set -u
 cd "$(dirname "$0")/.." || exit 2
 . tests/program.sh bearertrace "${1:-}"
 trace=$program
 . tests/program.sh inspect "${2:-}"
 status=0
-# what the README shows: the indented lines behind the sentence that begins so
+# what the README shows: the indented lines after this sentence
 told=$(awk '/^It prints, with a line of field names first:/ { on = 1; next } on && /^    / { print substr($0, 5); seen = 1; next } seen { exit }' README.md)
 if [ -z "$told" ] || [ "$told" != "$("$trace" < samples/trace.txt)" ]; then
     echo "README.md shows another answer to samples/trace.txt"
@@ -21,7 +21,7 @@ if [ "$(printf '%s\n' "$rows" | wc -l)" != "$(printf '%s\n' "$lines" | wc -l)" ]
     echo "docs/PROGRAMS.md has another number of lines than samples/inspect.txt"
     status=1
 fi
-# `..` may stand for any digits; all else is as it is printed
+# `..` matches any digits, everything else itself
 while IFS=$'\t' read -r line answer told_line told_answer; do
     for pair in "$line|$told_line" "$answer|$told_answer"; do
         got=${pair%|*}

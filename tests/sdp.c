@@ -1,11 +1,10 @@
 /*
- * sdp: has an SDP parser read messages, libosip2's where built with -DOSIP, Sofia-SIP's where built with
- * -DSOFIA; their headers share names, so a program has one of them. Each line of standard input has the
- * octets of a message as they were written and as they were to be written, in hex. The parser must take the
- * former, and all lines that it shows, put together again, must be the latter. Not asked for, but counted,
- * is what it makes of messages without a media line (Rejected, Confused), and of those in which the card
- * carries a text that the parser takes for no attribute's. Ends with status 1 where a message differs, and
- * prints the first.
+ * sdp: has an SDP parser read messages: libosip2's if built with -DOSIP, Sofia-SIP's if built with -DSOFIA.
+ * Their headers share names, so a program has one of them. Each line of standard input has the octets of a
+ * message as they were written and as they are expected, in hex. The parser must accept the former, and all
+ * lines that it shows, put together again, must be the latter. Counted, but not required, is what it does with
+ * messages without a media line (Rejected, Confused), and with those in which the card carries a text that
+ * the parser does not accept as an attribute's. Ends with status 1 if a message differs, and prints the first.
  */
 #include <stdarg.h>
 #include <stdio.h>
@@ -45,7 +44,7 @@ static void say(struct shown *s, const char *form, ...)
 #define PARSER "libosip2"
 #define SKIPPED "an fmtp line without a text, as the peer sent it: RFC 4566 has no empty value"
 
-/* Whether the parser is to take the message: it asks for a value behind an attribute's colon. */
+/* Whether the parser should accept the message: it requires a value after an attribute's colon. */
 static int regular(const char *wanted)
 {
     return strstr(wanted, "\r\na=fmtp:\r\n") == NULL;
@@ -105,7 +104,7 @@ static int parse(const char *text, struct shown *s)
 #define SKIPPED "an rtpmap without name and clock rate, an fmtp for another payload, several fmtp lines, of which it " \
     "keeps the last, or other than audio over RTP/AVP, whose words it alters"
 
-/* Whether a line, with the CRLF in front of it, is an rtpmap with a name and a clock rate, or none at all. */
+/* Whether a line, with the CRLF before it, is an rtpmap with a name and a clock rate, or not an rtpmap. */
 static int regular_map(const char *line)
 {
     int n = 0;
@@ -128,7 +127,7 @@ static int regular_format(const char *line, unsigned payload)
 }
 
 /*
- * Whether the parser is to take the message and show it whole: in strict mode it asks for attributes as RFC
+ * Whether the parser should accept the message and show all of it: in strict mode it requires attributes as RFC
  * 4566 has them, an rtpmap with name and clock rate and an fmtp for the payload of the media line.
  */
 static int regular(const char *wanted)
@@ -213,7 +212,7 @@ static int parse(const char *text, struct shown *s)
 }
 #endif
 
-/* The octets of digits up to a blank or the end, in their place and with a 0 behind; where the digits end. */
+/* Replaces digits, up to a blank or the end, by their octets and a 0; answers where the digits end. */
 static char *read_digits(char *digits)
 {
     size_t n = strcspn(digits, " \n");
@@ -229,7 +228,7 @@ static char *read_digits(char *digits)
     return digits + n;
 }
 
-/* What is asked of a message: nothing without media, nothing of some texts, else all. */
+/* What is required of a message: nothing without media, nothing with some texts, otherwise everything. */
 enum asked { WITHOUT, SOME, ALL };
 
 static unsigned long counts[ALL + 1][2];

@@ -1,8 +1,8 @@
 #!/usr/bin/env bash
 # sdp.sh [DIRECTORY [PACKET]]: has two SDP parsers, libosip2's and Sofia-SIP's (in strict mode, sdp_f_strict), read the
-# messages that the card writes, and compares what they show with what was to be written: sdp.c does it and says how.
-# The messages are those of wireshark.sh, which has the same arguments. No part of the gate. Needs Python 3, a C
-# compiler, pkg-config and the parsers (apt-get install libosip2-dev libsofia-sip-ua-dev). Ends with status 1 where a
+# messages that the card writes, and compares what they show with the expected message: sdp.c does it and says how.
+# The messages are those of wireshark.sh, which has the same arguments. Not part of the gate. Needs Python 3, a C
+# compiler, pkg-config and the parsers (apt-get install libosip2-dev libsofia-sip-ua-dev). Ends with status 1 if a
 # message differs.
 set -euo pipefail
 root=$(cd "$(dirname "$0")/.." && pwd)

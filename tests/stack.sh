@@ -1,14 +1,14 @@
 #!/usr/bin/env bash
-# stack.sh [DIRECTORY]: runs the programs with the stack that docs/PROMISES.md assumes and no more, and with no
-# environment, and compares what they print with the answers from outside: what the gate is given (crates/*/stdin, data
-# and stdout), which has the longest lines and every kind of event; all traces and vectors of tests/vectors; and the
-# Recommendation's examples. The programs are those in DIRECTORY, target/bin unless given. Ends with status 1 where
-# something differs. No part of the gate; needs Linux.
+# stack.sh [DIRECTORY]: runs the programs with just the stack that docs/PROMISES.md assumes, and with no environment,
+# and compares what they print with the expected answers: on the gate's inputs (crates/*/stdin, data and stdout), which
+# have the longest lines and every kind of event; on all traces and vectors of tests/vectors; and on the
+# Recommendation's examples. The programs are those in DIRECTORY (default: target/bin). Ends with status 1 if something
+# differs. Not part of the gate; needs Linux.
 set -uo pipefail
 cd "$(dirname "$0")/.." || exit 2
 # KiB of stack
 limit=192
-# Linux moves the start of a stack down by up to 8 KiB, at random, so what the gate is given is run so often.
+# Linux moves the start of a stack down by up to 8 KiB, at random, so the gate's inputs are run this often.
 turns=20
 directory=${1:-target/bin}
 work=$(mktemp -d)

@@ -1,9 +1,9 @@
 #!/usr/bin/env bash
-# strike.sh [TRACEDETAIL [DIRECTORY]]: document 01's demand 3, seen from outside. For each trace N of DIRECTORY/traces,
-# N.book says of each line behind the configuration whether it is kept or struck (`none` where it is no event). The
+# strike.sh [TRACEDETAIL [DIRECTORY]]: document 01's demand 3, tested from outside. For each trace N of DIRECTORY/traces,
+# N.book says of each line after the configuration whether it is kept or struck (`none` if it is not an event). The
 # lines that are kept are given to a fresh run, which must print the same states, notices, octets and bearers for
-# them as the run of the whole trace did. The book is an outside program's; both runs are tracedetail's. It is the
-# built one in target/bin, and the directory tests/vectors, unless given. Ends with status 1 where a line differs.
+# them as the run of the whole trace did. The book is an outside program's; both runs are tracedetail's (default: the
+# built one in target/bin). DIRECTORY is tests/vectors by default. Ends with status 1 if a line differs.
 set -u
 cd "$(dirname "$0")/.." || exit 2
 . tests/program.sh tracedetail "${1:-}"
@@ -20,7 +20,7 @@ for in in "$vectors"/traces/*.in; do
     if [ "$(cat "$work/whole")" = refused-12 ]; then
         continue
     fi
-    # The configuration is all before the events, of which the book has a line each.
+    # The configuration is everything before the events; the book has a line for each event.
     front=$(($(awk 'END { print NR }' "$in") - $(wc -l < "$book")))
     awk -v front="$front" -v book="$book" '
         NR <= front { print; next }

@@ -1,9 +1,9 @@
 /*
- * table INPUT ANSWERS: fills tables of element entries by bat_table_store, and compares them with
+ * table INPUT ANSWERS: fills tables of element entries with bat_table_store, and compares them with
  * outside answers. A line of INPUT is `PASS ENTRIES HEX`, the same line of ANSWERS `refused-N`, or an
  * outcome, a count, `IDENTIFIER/START/LENGTH/VALUE` for each element, and what is listed. Every table
- * stands between guard entries, and starts out with a mark of its own in each entry: all that is not
- * filled must keep it. Ends with status 1 at the first line that differs.
+ * is between guard entries, and starts with a different mark in each entry: entries that are not filled
+ * must keep it. Ends with status 1 at the first line that differs.
  */
 #include <errno.h>
 #include <stdio.h>
@@ -46,7 +46,7 @@ static int next_line(FILE *f, char **text, size_t *room)
     return 1;
 }
 
-/* What each octet of entry i holds before the table is lent, the padding's too. */
+/* What each octet of entry i, padding included, holds before the call. */
 static int mark(size_t i)
 {
     return 128 + (int)(i % 127);
@@ -79,7 +79,7 @@ static uint8_t *read_digits(const char *digits, size_t *octets)
     return data;
 }
 
-/* How many entries the answer fills, which are compared with those at the front of the table. */
+/* Compares the entries of the answer with those at the front of the table; answers how many there are. */
 static size_t compare(const char *want, size_t got, const struct bat_entry *table, size_t entries)
 {
     size_t number, count;

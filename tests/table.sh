@@ -1,7 +1,7 @@
 #!/usr/bin/env bash
 # table.sh [DIRECTORY]: proves the table of element entries, links it into the C program table.c, and fills tables from
-# DIRECTORY/elements.in, which must then hold what DIRECTORY/elements.out says. The directory is tests/vectors unless
-# given. No part of the gate. Needs a C compiler beside rt. Ends with status 1 where a table differs.
+# DIRECTORY/elements.in, which must then hold what DIRECTORY/elements.out says (default: tests/vectors). Not part of
+# the gate. Needs rt and a C compiler. Ends with status 1 if a table differs.
 set -eu
 root=$(cd "$(dirname "$0")/.." && pwd)
 vectors=${1:-$root/tests/vectors}

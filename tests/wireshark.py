@@ -1,15 +1,15 @@
 #!/usr/bin/env python3
 """wireshark.py [--messages] DIRECTORY [PACKET]: gives what the card writes to Wireshark's dissectors, and compares
-what tshark shows, field by field, with what was to be written.
+what tshark shows, field by field, with what is expected.
 
 DIRECTORY has inspect and tracedetail. PACKET is the program of packet.c; without it that part is left out, and the
-output says so. What is compared with never comes from the program that wrote: an element is the input's as model.py
+output says so. What is expected never comes from the program that wrote it: an element is the input's as model.py
 reads it, with the compatibility that was asked for; a reply is what document 01 says of the octets received; a
 message follows from the trace's configuration, commands and received octets, or from the message that PACKET was
 given, as model.py reads it.
 
-With --messages nothing is dissected: the messages are printed, one to a line, as they were written and as they were
-to be written, in hex, for sdp.sh. Ends with status 1 where something differs."""
+With --messages nothing is dissected: the messages are printed for sdp.sh, one to a line, as they were written and as
+they are expected, in hex. Ends with status 1 if something differs."""
 import collections
 import contextlib
 import glob
@@ -29,7 +29,7 @@ VECTORS = os.path.join(HERE, "vectors")
 
 # What is not compared, and why it is the dissector that is wrong or silent. Q.765.5 gives every element, inner ones
 # too, a length of one octet or two that counts compatibility and contents: where it ends never depends on its value.
-# The octets of all data are compared in any case; here it is a matter of what the dissector's fields show.
+# The octets of all data are compared in any case; this is only about what the dissector's fields show.
 FAULTS = {
     # The figure of a diagnostic has the most significant octet of the index first.
     "index": "indices of diagnostics as numbers: shown least significant octet first, so their octets are compared",
@@ -56,11 +56,11 @@ FAULTS = {
     "inside": "what follows addresses of AFI 35 or 45 that are no whole ICP or E.164 address: it gives up inside",
     # Document 01 asks for one octet; nothing says that there are two indicators in it.
     "control": "what follows control information of one octet: it takes the next element's first for the second",
-    # It is not the card's to judge what it carries here.
+    # The card does not judge what it carries here.
     "text": "control information for IPBCP, past its indicators, that is no message as the card writes them",
-    # RFC 4566 knows no quotation: a line ends in CRLF, whatever is in it.
+    # RFC 4566 has no quotation: a line ends in CRLF, whatever is in it.
     "quote": "lines behind a line with a lone quotation mark: it looks for the next mark before a line's end",
-    # The texts are the peer's or the configuration's, which the card carries; it complains of them by RFC 4566.
+    # The card carries the peer's or the configuration's texts; the dissector complains of them by RFC 4566.
     "attribute": "the inside of rtpmap and fmtp lines that say no codec or format: the line's octets are compared",
 }
 
@@ -114,7 +114,7 @@ class Report:
 
 # Captures and what tshark makes of them.
 
-# Where a PDU begins in its frame: behind a tag with the dissector's name, of four letters, and a tag that ends them.
+# Where a PDU begins in its frame: after a tag with the dissector's name, of four letters, and a tag that ends them.
 PDU = 12
 
 
@@ -129,8 +129,8 @@ def write_capture(path, name, pdus):
 
 
 def dissect(name, pdus):
-    """What tshark shows of each PDU, as the tree of its PDML. Where these are fewer than the PDUs the program ends
-    behind the last."""
+    """What tshark shows of each PDU, as the tree of its PDML. If there are fewer of these than PDUs, the program ends
+    after the last."""
     with tempfile.TemporaryDirectory() as work:
         path = os.path.join(work, "capture")
         write_capture(path, name, pdus)
@@ -147,7 +147,7 @@ def dissect(name, pdus):
 
 
 def number_of(show):
-    """The number that a field shows, where it shows one."""
+    """The number that a field shows, if it shows one."""
     if show in ("True", "False"):
         return int(show == "True")
     try:
@@ -170,8 +170,8 @@ def complaints(tree):
 
 
 def looked_at(want, got):
-    """What was shown, with what is not looked at (None) set as in what is wanted. The octets are compared as far as
-    those that are wanted go, so that a field that runs past its element still shows the element's."""
+    """What was shown, with what is not compared (None) set as expected. Only as many octets are compared as are
+    expected, so that a field that runs past its element still shows the element's."""
     if want.name != got.name:
         return got
     octets = None if want.octets is None else got.octets[:len(want.octets)]
@@ -206,7 +206,7 @@ NUMBERS = {
 # What the dissectors of the addresses and texts inside show, which are not the element's fields.
 INSIDE = ("x213.", "nsap.", "e164.", "isup.idp", "isup.idi", "isup.dsp", "_ws.")
 
-# An action, 0, that stands behind an element where the dissector reads past the element's end.
+# An action, 0, put after an element if the dissector reads past the element's end.
 TAIL = bytes.fromhex("01828000")
 
 Element = collections.namedtuple("Element", "identifier compatibility value contents inner")
@@ -228,7 +228,7 @@ def element_of(identifier, compatibility, contents, head):
 
 
 class Layout:
-    """What the dissector is to show of elements laid end to end from a place on."""
+    """What the dissector should show of elements laid end to end from a place on."""
 
     def __init__(self, at):
         self.at = at
@@ -268,7 +268,7 @@ class Layout:
         if len(e.contents) > 126:
             self.notes.append("whole")
             size -= 1
-        # In front of an element it shows bit 8 of the first length octet.
+        # Before an element it shows bit 8 of the first length octet.
         self.items.append(Item(EXTENSION, self.at + 1, 1, whole[1:2], whole[1] >> 7))
         self.items.append(Item(ELEMENT, self.at, size, None, None))
         self.header(e)
@@ -304,7 +304,7 @@ class Layout:
     def value_3(self, e):
         octets = octets_of(e.value)
         self.take("bat_ase.biwfa", octets)
-        # It looks inside these two formats for 20 octets, and for decimal digits behind 45.
+        # It looks inside these two formats for 20 octets, and for decimal digits after 45.
         digits = octets[1:9].hex().isdecimal()
         if octets[0] in (0x35, 0x45) and (len(octets) < 20 or octets[0] == 0x45 and not digits):
             self.lose("inside")
@@ -417,14 +417,14 @@ class Layout:
 
 
 def encode_length(rng, length):
-    """A length in a form that is read: the longer one too, with any bits where they are ignored."""
+    """A length in a form that is read, the longer one too, with any ignored bits."""
     if length < 128 and rng.random() < 0.7:
         return bytes([0x80 | length])
     return bytes([length & 127, 0x80 | rng.randrange(8) << 4 | length >> 7])
 
 
 def encode(rng, identifier, contents):
-    """An element to be read: any form of its length, one compatibility octet or more where there is room."""
+    """An element to be read: any form of its length, one compatibility octet, or more if there is room."""
     more = rng.choice((0, 0, 0, 1, 2)) if len(contents) < 2000 else 0
     compat = bytes(rng.randrange(128) for _ in range(more)) + bytes([0x80 | rng.randrange(128)])
     body = compat + contents
@@ -484,7 +484,7 @@ SMALL = {1: "08", 2: "01020304", 3: "490102", 4: "0583800101", 5: "0101", 6: "01
 
 
 def rewrite_lines():
-    """Lines of inspect's `rewrite`: the vectors, and those that are made up here."""
+    """Lines of inspect's `rewrite`: the vectors, and those made up here."""
     with open(os.path.join(VECTORS, "rewrite.in")) as f:
         lines = f.read().split("\n")[:-1]
     rng = random.Random(1)
@@ -567,7 +567,7 @@ def plan(written):
 
 
 def written_elements(inspect, report):
-    """The elements that inspect writes, with what they are to be; where it writes none it says what model.py does."""
+    """The elements that inspect writes, with those expected; if it writes none, it says what model.py does."""
     lines = rewrite_lines()
     written = []
     for line, answer in zip(lines, run_lines(inspect, ["rewrite " + l for l in lines])):
@@ -584,7 +584,7 @@ def written_elements(inspect, report):
 
 
 def agreeable(layout, packet):
-    """What a packet is to show and what it shows, as lists that are equal where it agrees: fields, complaints, data."""
+    """What a packet should show and what it shows, as lists that are equal if they agree: fields, complaints, data."""
     got, data = shown_elements(packet)
     want = layout.items
     got = [looked_at(w, g) for w, g in zip(want, got)] + got[len(want):]
@@ -637,8 +637,8 @@ def reply_to(buffer, data):
 
 
 def bits_of(parts):
-    """What the dissector is to show of a reply: each part. It shows no fixed bit and judges none, so the two octets
-    from which the parts are read are compared with each."""
+    """What the dissector should show of a reply: each part. It shows no fixed bit and judges none, so the two octets
+    that the parts are read from are compared with each."""
     version_error, version, protocol_error, protocol = parts
     octets = bytes([0x20 | version_error << 6 | version, protocol_error << 6 | protocol])
     names = ("bctp.bvei", "bctp.bvi", "bctp.tpei", "bctp.tpi")
@@ -722,7 +722,7 @@ PARTS = {
     b"fmtp": ("sdp.media_attr", ("sdp.media_attribute.field", "sdp.media.format", "sdp.fmtp.parameter")),
     b"ptime": ("sdp.media_attr", ("sdp.media_attribute.field", "sdp.media_attribute.value")),
 }
-# What parts the words of a line.
+# What separates the words of a line.
 WORDS = {b"rtpmap": rb"[^:/ ]+", b"fmtp": rb"[^: ]+", b"ipbcp": rb"[^: ]+", b"ptime": rb"[^:]+"}
 # An rtpmap with a codec and a clock rate, and an fmtp with a format and one parameter.
 REGULAR = {b"rtpmap": re.compile(rb"a=rtpmap:\d+ [\w-]+/\d+\Z"), b"fmtp": re.compile(rb"a=fmtp:\d{1,3} [\w=,-]+\Z")}
@@ -733,13 +733,13 @@ def kind_of(line):
 
 
 def is_regular(line):
-    """Whether the dissector is to read the inside of an rtpmap or fmtp line, or the line is another."""
+    """Whether the dissector should read the inside of an rtpmap or fmtp line, or the line is another."""
     kind = kind_of(line)
     return kind not in REGULAR or REGULAR[kind].match(line) is not None
 
 
 def expected_line(line, at):
-    """The fields of one line at a place: the line's own, and its parts' where the line is regular, else None."""
+    """The fields of one line at a place: the line's own, and its parts' if the line is regular, otherwise None."""
     kind = kind_of(line)
     name, parts = PARTS[kind]
     own = Item(name, at, len(line), line, None)
@@ -753,7 +753,7 @@ def expected_line(line, at):
 
 
 def shown_line(node, want):
-    """The same of a line that is shown, and what is complained of in it."""
+    """The same of a line that is shown, with the complaints about it."""
     own, parts = want
     got = [item_of(n) for n in node.iter("field") if n is not node and not n.get("name").startswith("_ws.")]
     if parts is None:
@@ -767,7 +767,8 @@ def flat(lines):
 
 
 def compare_message(report, what, packet, m, at, octets):
-    """One message that is shown from a place on. Lines stand end to end with CRLF behind each: their places say so."""
+    """One message that is shown from a place on. The lines' places show that they follow each other, with CRLF after
+    each."""
     wanted, quoted = [], False
     for line in lines_of(m):
         if quoted:
@@ -812,7 +813,7 @@ def messages(rng):
 
 
 def spelled(rng, address):
-    """An IPv6 address in another form: zeros in front, either case, `::` for any run of zeros or for none."""
+    """An IPv6 address in another form: leading zeros, either case, `::` for any run of zeros or for none."""
     groups = model.ip6(address)
     words = [rng.choice(("%x", "%X", "%04x", "%04X")) % g for g in groups]
     runs = [(i, j) for i in range(8) for j in range(i + 1, 9) if not any(groups[i:j])]
@@ -823,7 +824,7 @@ def spelled(rng, address):
 
 
 def packet_inputs():
-    """Messages for PACKET: the vectors, and those that are made up here."""
+    """Messages for PACKET: the vectors, and those made up here."""
     with open(os.path.join(VECTORS, "message.in")) as f:
         inputs = [octets_of(l) for l in f.read().split("\n")[:-1]]
     rng = random.Random(2)
@@ -833,8 +834,8 @@ def packet_inputs():
 
 
 def written_packets(program, report):
-    """The packets that PACKET writes, with what is to be in them. A message that is a version and a type alone writes
-    none, and one that would have over 447 octets is refused by 5."""
+    """The packets that PACKET writes, with what is expected in them. A message of which only version and type are read
+    writes none, and one that would have over 447 octets is refused by 5."""
     inputs = packet_inputs()
     written = []
     for data, answer in zip(inputs, run_lines(program, [i.hex().upper() or "-" for i in inputs])):
@@ -865,7 +866,7 @@ def trace_configuration(lines):
 
 
 def to_be_written(config, event, notice):
-    """What an event's line has written, by document 01: a message, or None. A notice names Rejected and Confused."""
+    """What an event should write, by document 01: a message, or None. A notice names Rejected and Confused."""
     (family, address, port), least, most, names, _ = config
     kind, *fields = event
     if kind in (b"U", b"C") and notice == "none":
@@ -899,7 +900,7 @@ def trace_events(path, program):
 
 
 def written_messages(program, report):
-    """What tracedetail writes over all traces, with what is to be written."""
+    """What tracedetail writes over all traces, with what is expected."""
     written = []
     for path in sorted(glob.glob(os.path.join(VECTORS, "*traces", "*.in"))):
         name = os.path.relpath(path, VECTORS)
@@ -914,7 +915,7 @@ def written_messages(program, report):
 
 
 def compare_traces(directory):
-    """The messages of the traces, bare and behind the indicators of a tunnel packet."""
+    """The messages of the traces, bare and after the indicators of a tunnel packet."""
     none = Report("traces, nothing written", "events")
     written = written_messages(os.path.join(directory, "tracedetail"), none)
     bare, tunnelled = Report("messages, bare"), Report("messages, tunnelled")
@@ -925,7 +926,7 @@ def compare_traces(directory):
 
 
 def compare_packets(report, written):
-    """Tunnel packets with a message: the indicators, and the message behind them."""
+    """Tunnel packets with a message: the indicators, and the message after them."""
     for packet, (what, m, octets) in zip(dissect("bctp", [o for _, _, o in written]), written):
         proto = next(p for p in packet.iter("proto") if p.get("name") == "bctp")
         got = [item_of(n) for n in proto.iter("field")]
@@ -942,7 +943,7 @@ def compare_rewritten(program):
 
 
 def print_messages(directory, program):
-    """The messages as written and as they were to be, for sdp.sh."""
+    """The messages as written and as expected, for sdp.sh."""
     report = Report("messages")
     with contextlib.redirect_stdout(sys.stderr):
         written = written_messages(os.path.join(directory, "tracedetail"), report)

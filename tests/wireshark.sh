@@ -1,10 +1,10 @@
 #!/usr/bin/env bash
 # wireshark.sh [--messages] [DIRECTORY [PACKET]]: has Wireshark's dissectors read what the card writes (elements, tunnel
-# replies, messages, packets with a message), and compares what they show with what was to be written: wireshark.py does
-# it and says how. DIRECTORY has the built inspect and tracedetail, target/bin unless given. PACKET is the program of
-# packet.c; unless given it is linked here with the library that `rt staticlib card_packet` proves and writes, and `-`
-# leaves that part out. With --messages the messages are printed for sdp.sh instead. No part of the gate. Needs Python 3
-# and tshark (apt-get install tshark), and a C compiler beside rt for PACKET. Ends with status 1 where one differs.
+# replies, messages, packets with a message), and compares what they show with what is expected: wireshark.py does it
+# and says how. DIRECTORY has the built inspect and tracedetail (default: target/bin). PACKET is the program of packet.c;
+# by default it is linked here with the library that `rt staticlib card_packet` proves and writes, and `-` leaves that
+# part out. With --messages the messages are printed for sdp.sh instead. Not part of the gate. Needs Python 3 and tshark
+# (apt-get install tshark), and rt and a C compiler for PACKET. Ends with status 1 if something differs.
 set -eu
 root=$(cd "$(dirname "$0")/.." && pwd)
 mode=()
