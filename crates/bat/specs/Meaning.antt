@@ -33,7 +33,7 @@ use Rattle.bat.specs.declared.DataOutcome.the-variants.{Neither, Discard
 use Rattle.bat.specs.declared.DataAnswer.{DataAnswer}
 use Rattle.bat.specs.declared.DataAnswer.the-variants.{Refused as RefusedData, Taken}
 use Rattle.bat.specs.Framing.{Length, sized, unsized, Element, Front, first, unframed, ended, Cut, refused, taken}
-use Rattle.bat.specs.Values.{Diagnostic, SingleCodec, InnerType, InnerDuration, untimed, lasting, Value, action, backbone, address, codecs, single, report, characteristics, control, tunnelling, controlUnit, signal, capability, indicators, signalType, duration, Decoding, decoded, unrecognised, meant, diagnosticsIn, codecsIn, onCodecs}
+use Rattle.bat.specs.Values.{Diagnostic, SingleCodec, InnerType, InnerDuration, untimed, lasting, Value, action, backbone, address, codecs, single, report, characteristics, control, tunnelling, controlUnit, signal, capability, indicators, signalType, duration, Decoding, decoded, unrecognised, diagnosticsIn, codecsIn, onCodecs}
 use Rattle.bat.specs.Judging.{Judgement, Finding, known, unknown, dataOutcome, JudgedData, refusedData, judgedElements}
 
 -- ---- framing
@@ -91,11 +91,11 @@ abbrev pub singleCodecIn : List ℕ → CodecPlace → SingleCodec
 singleCodecIn s c = record { organisation = c .organisation; information = textOf s (c .information) }
 
 abbrev pub innerTypeIn : TypePlace → InnerType
-innerTypeIn k = record { compatibility = meant (k .compatibility); kind = k .kind }
+innerTypeIn k = record { compatibility = k .compatibility; kind = k .kind }
 
 unfoldable pub innerDurationIn : DurationPlace → InnerDuration
 innerDurationIn Untimed = untimed
-innerDurationIn (LastingFor c n) = lasting (meant c) n
+innerDurationIn (LastingFor c n) = lasting c n
 
 -- What a value stands for, by the octets of s that are in its spans. Nothing where a span that should stand for
 -- codecs or diagnostics does not.

@@ -9,7 +9,7 @@ use lib.ListN.{length}
 use lib.Dec.{leb, ltb}
 use Rattle.codes.specs.Codes.{isAction, isSignal}
 use Rattle.bat.specs.Framing.{mostOctets}
-use Rattle.bat.specs.Values.{Diagnostic, SingleCodec, InnerCodec, InnerDuration, untimed, lasting, Value, action, backbone, address, codecs, single, report, characteristics, control, tunnelling, controlUnit, signal, capability, indicators, signalType, duration, rightSingle, rightIndicators}
+use Rattle.bat.specs.Values.{Diagnostic, SingleCodec, InnerCodec, InnerType, InnerDuration, untimed, lasting, Value, action, backbone, address, codecs, single, report, characteristics, control, tunnelling, controlUnit, signal, capability, indicators, signalType, duration, rightSingle, rightIndicators}
 
 -- ---- an element's octets
 -- the shortest form of a length
@@ -78,24 +78,38 @@ contentsText (indicators s) = s
 contentsText (signalType n) = n ∷ []
 contentsText (duration n) = sixteenBitsText n
 
-unfoldable pub allSinglesRight : List InnerCodec → Bool
-allSinglesRight [] = true
-allSinglesRight (c ∷ cs) = rightSingle (c .codec) && allSinglesRight cs
+-- the compatibility of an inner element: bits 7 to 1 of its octet, bit 8 of which is always written set
+abbrev pub sevenBits : ℕ → Bool
+sevenBits c = ltb c 128
+
+abbrev pub innerCodecInRange : InnerCodec → Bool
+innerCodecInRange c = sevenBits (c .compatibility) && rightSingle (c .codec)
+
+unfoldable pub innerCodecsInRange : List InnerCodec → Bool
+innerCodecsInRange [] = true
+innerCodecsInRange (c ∷ cs) = innerCodecInRange c && innerCodecsInRange cs
+
+abbrev pub innerTypeInRange : InnerType → Bool
+innerTypeInRange k = sevenBits (k .compatibility) && isSignal (k .kind)
+
+unfoldable pub innerDurationInRange : InnerDuration → Bool
+innerDurationInRange untimed = true
+innerDurationInRange (lasting c n) = sevenBits c
 
 -- Every field is in the range in which it is decoded. A field that is held in just the bits in which it is
--- written (an octet, sixteen bits, the seven of a compatibility octet) has no other range.
+-- written (an octet, sixteen bits) has no other range.
 unfoldable pub valueInRange : Value → Bool
 valueInRange (action n) = isAction n
 valueInRange (backbone s) = leb 1 (length s) && leb (length s) 4
 valueInRange (address s) = leb 1 (length s) && leb (length s) 20
-valueInRange (codecs cs) = leb 1 (length cs) && allSinglesRight cs
+valueInRange (codecs cs) = leb 1 (length cs) && innerCodecsInRange cs
 valueInRange (single c) = rightSingle c
 valueInRange (report r ds) = true
 valueInRange (characteristics n) = leb n 4
 valueInRange (control s) = leb 1 (length s)
 valueInRange (tunnelling b) = true
 valueInRange (controlUnit n l) = leb (length n) 255 && leb 1 (length l)
-valueInRange (signal k t) = isSignal (k .kind)
+valueInRange (signal k t) = innerTypeInRange k && innerDurationInRange t
 valueInRange (capability b) = true
 valueInRange (indicators s) = rightIndicators s
 valueInRange (signalType n) = isSignal n

@@ -45,13 +45,13 @@ pub struct SingleCodec {
     pub information: Span,
 }
 
-// The signal type inside a signal, with its own compatibility octet, of which bits 7 to 1 count.
+// The signal type inside a signal, with bits 7 to 1 of its own compatibility octet.
 pub struct InnerType {
     pub compatibility: u8,
     pub kind: u8,
 }
 
-// The duration inside a signal, with its own compatibility octet, of which bits 7 to 1 count.
+// The duration inside a signal, with bits 7 to 1 of its own compatibility octet.
 pub enum InnerDuration {
     Untimed,
     Lasting { compatibility: u8, duration: u16 },
@@ -64,12 +64,21 @@ pub enum Value {
     Address(Span),
     Codecs(Span),
     Single(SingleCodec),
-    Report { reason: u8, diagnostics: Span },
+    Report {
+        reason: u8,
+        diagnostics: Span,
+    },
     Characteristics(u8),
     Control(Span),
     Tunnelling(bool),
-    Unit { network: Span, local: Span },
-    Signal { kind: InnerType, duration: InnerDuration },
+    Unit {
+        network: Span,
+        local: Span,
+    },
+    Signal {
+        kind: InnerType,
+        duration: InnerDuration,
+    },
     Capability(bool),
     Indicators(Span),
     SignalType(u8),

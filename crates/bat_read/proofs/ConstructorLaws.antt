@@ -172,7 +172,7 @@ module _ (k : TypePlace) (d : ℕ) (s : List ℕ) (f : Frame) (b : Bool) (is : b
         rw (duration-is, ne-eqb (length (drop (wholeLength f) s)) 0 n, ← frame-length s (Whole f) here f refl w l)
 
     pub last-whole : length s ≤ w → (c : List ℕ) → c ≡ elementIn s f .contents → (n : ℕ) → n ≡ sixteenBits c
-        → decodingIn m (Decoded (Signal k (Lasting (f .compatibility) n))) ≡ some (lastBy (innerTypeIn k) d (elementIn s f) (drop (wholeLength f) s))
+        → decodingIn m (Decoded (Signal k (Lasting (meant (f .compatibility)) n))) ≡ some (lastBy (innerTypeIn k) d (elementIn s f) (drop (wholeLength f) s))
     unfolding decodingIn valueIn valueInside valueBy innerDurationIn lastBy
     last-whole h c e n p =
         let z : length (drop (wholeLength f) s) ≡ 0 = omega (arith, length-drop (wholeLength f) s, l .is) in
@@ -203,12 +203,12 @@ module _ (s : List ℕ) (f : Frame) (b : Bool) (is : b ≡ isType (elementIn s f
   typed-no h = let n : isType (elementIn s f) ≡ false = sym is ∙ h in rw n
 
   kind-is : (n w : ℕ) (t : List ℕ) → n ≡ octet 0 (elementIn s f .contents)
-      → some (timedBy (innerTypeIn (record { compatibility = f .compatibility; kind = n })) w t) ≡ some (timedBy (innerType (elementIn s f)) w t)
+      → some (timedBy (innerTypeIn (record { compatibility = meant (f .compatibility); kind = n })) w t) ≡ some (timedBy (innerType (elementIn s f)) w t)
   unfolding elementIn
   kind-is n w t q = rw q
 
   pub typed-yes : b ≡ true → frontIn s (Whole f) ≡ some (front s) → (w : ℕ) → WholeLength f w → (c : List ℕ) → c ≡ elementIn s f .contents → (n : ℕ) → n ≡ octet 0 c
-      → (t : List ℕ) → t ≡ drop w s → (r : DecodingPlace) → ((m : List ℕ) → decodingIn m r ≡ some (timedBy (innerTypeIn (record { compatibility = f .compatibility; kind = n })) w t))
+      → (t : List ℕ) → t ≡ drop w s → (r : DecodingPlace) → ((m : List ℕ) → decodingIn m r ≡ some (timedBy (innerTypeIn (record { compatibility = meant (f .compatibility); kind = n })) w t))
       → decodingIn s r ≡ some (signalBy (elementIn s f) (drop (wholeLength f) s))
   unfolding signalBy
   typed-yes h here w l c ci n ni t ti r p =

@@ -10,12 +10,12 @@ ghost use Rattle.bat.specs.Values.{codecsIn, codecListIn, isSingle, isType, isD
 ghost use Rattle.bat.specs.Meaning.{wholeLength, elementIn, frontIn, innerTypeIn, decodingIn};
 ghost use Rattle.bat_read.specs.Examining.{offenceOf};
 use crate::Offence;
+use bat::Decoding;
 use bat::Frame;
 use bat::Framed;
-use bat::Place;
-use bat::Decoding;
 use bat::InnerDuration;
 use bat::InnerType;
+use bat::Place;
 use bat::Value;
 use octets::Span;
 
@@ -107,7 +107,7 @@ fn last(kind: InnerType, d: usize, s: &[u8], f: Frame) -> Decoding
         return Decoding::Decoded(Value::Signal {
             kind: kind,
             duration: InnerDuration::Lasting {
-                compatibility: f.compatibility,
+                compatibility: f.compatibility % 128,
                 duration: bat::ranges::word(bat::framing::contents(s, f)),
             },
         });
@@ -139,7 +139,7 @@ fn typed(s: &[u8], f: Frame) -> Decoding
     if is_type(s, f) {
         let d = bat::framing::whole_length(f);
         let kind = InnerType {
-            compatibility: f.compatibility,
+            compatibility: f.compatibility % 128,
             kind: bat::framing::octet_at(bat::framing::contents(s, f), 0),
         };
         return timed(kind, d, octets::spans::after(s, d));

@@ -17,13 +17,13 @@ ghost use lib.ListN.{drop};
 use bat::Counted;
 use bat::DataAnswer;
 use bat::DataOutcome;
+use bat::Decoding;
 use bat::Diagnostic;
+use bat::Finding;
 use bat::Frame;
 use bat::Framed;
 use bat::Outcome;
 use bat::Place;
-use bat::Decoding;
-use bat::Finding;
 
 // An element at the front of a slice and what is made of it.
 pub enum Examined {

@@ -5,9 +5,9 @@ ghost use lib.ListN.{drop};
 ghost use Rattle.bat_read.specs.Steps.{Stands};
 ghost use Rattle.bat.specs.Values.{actionIn, backboneIn, addressIn, singleIn, reportIn, characteristicsIn, controlIn, tunnellingIn, unitIn, capabilityIn, indicatorsIn, typeIn, durationIn};
 ghost use Rattle.bat.specs.Meaning.{decodingIn};
-use bat::SingleCodec;
-use bat::Place;
 use bat::Decoding;
+use bat::Place;
+use bat::SingleCodec;
 use bat::Value;
 use octets::Span;
 

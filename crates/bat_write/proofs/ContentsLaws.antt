@@ -9,7 +9,8 @@ use lib.Dec.{leb}
 use native.Mathlib.Omega.{arith}
 use mir.Syntax.{w8}
 use mir.Val.{Fits}
-use borrow.Author.Tests.{leb-true}
+use borrow.Author.Tests.{leb-true, ltb-true}
+use Rattle.codes.specs.Codes.{isSignal}
 use Rattle.octets.specs.declared.Span.{Span}
 use Rattle.octets.specs.Spans.{textOf}
 use Rattle.octets.specs.Append.{Appends}
@@ -18,12 +19,20 @@ use Rattle.bat.specs.declared.InnerType.{InnerType as TypePlace}
 use Rattle.bat.specs.declared.InnerDuration.{InnerDuration as DurationPlace}
 use Rattle.bat.specs.declared.InnerDuration.the-variants.{Untimed, Lasting as LastingFor}
 use Rattle.bat.specs.declared.Value.{Value as ValuePlace}
-use Rattle.bat.specs.declared.Value.the-variants.{Codecs as CodecsPlace, Report, Unit as UnitPlace, Capability}
+use Rattle.bat.specs.declared.Value.the-variants.{Codecs as CodecsPlace, Report, Unit as UnitPlace, Signal, Capability}
 use Rattle.bat.specs.Values.{signal, meant}
-use Rattle.bat.specs.Writing.{elementText, sixteenBitsText, innerDurationText, bitText, contentsText, valueInRange}
+use Rattle.bat.specs.Writing.{elementText, sixteenBitsText, innerDurationText, bitText, contentsText, sevenBits, innerTypeInRange, innerDurationInRange, valueInRange}
 use Rattle.bat.specs.Meaning.{innerTypeIn, innerDurationIn, valueBy}
 use Rattle.bat_write.specs.Texts.{codecsOf, reportOf, valueInRangeIn, contentsIn, codecsAnew}
 use Rattle.bat_write.proofs.CodecLaws.{codecs-text}
+
+-- ---- a signal
+-- all of the compatibility that is in range is written
+meant-seven : (c : ℕ) → sevenBits c ≡ true → meant c ≡ c
+meant-seven c h = omega (arith, ltb-true c 128 h)
+
+pub signal-lasts : (t : TypePlace) (d : DurationPlace) → (innerTypeInRange (innerTypeIn t) && innerDurationInRange (innerDurationIn d)) ≡ true → innerDurationInRange (innerDurationIn d) ≡ true
+signal-lasts t d h = and-eq-true-iff (innerTypeInRange (innerTypeIn t)) (innerDurationInRange (innerDurationIn d)) .0 h .1
 
 module _ (l f : List ℕ) (at r : ℕ) where
   -- one octet, and a text that is known by another name
@@ -34,14 +43,17 @@ module _ (l f : List ℕ) (at r : ℕ) where
   unfolding innerDurationText innerDurationIn
   lasting-none d e = rw e (append-nil l at)
 
-  pub lasting-some : (d : DurationPlace) (c n : ℕ) → d ≡ LastingFor c n → Appends l at (elementText 15 (meant c) (sixteenBitsText n)) r f → Appends l at (innerDurationText (innerDurationIn d)) r f
-  unfolding innerDurationText innerDurationIn
-  lasting-some d c n e p = rw e p
+  pub lasting-some : (d : DurationPlace) (c n : ℕ) → innerDurationInRange (innerDurationIn d) ≡ true → d ≡ LastingFor c n → Appends l at (elementText 15 (meant c) (sixteenBitsText n)) r f → Appends l at (innerDurationText (innerDurationIn d)) r f
+  unfolding innerDurationText innerDurationIn innerDurationInRange
+  lasting-some d c n h e p = let z : sevenBits c ≡ true = rw e at h in rw e (rw (meant-seven c z) at p)
 
-  pub signal-then : (g : List ℕ) (k : ℕ) (d : DurationPlace) (t : TypePlace) → Appends g k (innerDurationText (innerDurationIn d)) r f → Appends l at (elementText 14 (meant (t .compatibility)) (t .kind ∷ [])) k g
+  pub signal-then : (g : List ℕ) (k : ℕ) (d : DurationPlace) (t : TypePlace) → (innerTypeInRange (innerTypeIn t) && innerDurationInRange (innerDurationIn d)) ≡ true → Appends g k (innerDurationText (innerDurationIn d)) r f → Appends l at (elementText 14 (meant (t .compatibility)) (t .kind ∷ [])) k g
       → Appends l at (contentsText (signal (innerTypeIn t) (innerDurationIn d))) r f
   unfolding contentsText
-  signal-then g k d t q p = append-then l g f (elementText 14 (meant (t .compatibility)) (t .kind ∷ [])) (innerDurationText (innerDurationIn d)) at k r q p
+  signal-then g k d t h q p =
+      let (this, last) = and-eq-true-iff (innerTypeInRange (innerTypeIn t)) (innerDurationInRange (innerDurationIn d)) .0 h in
+      let (small, known) = and-eq-true-iff (sevenBits (t .compatibility)) (isSignal (t .kind)) .0 this in
+      append-then l g f (elementText 14 (t .compatibility) (t .kind ∷ [])) (innerDurationText (innerDurationIn d)) at k r q (rw (meant-seven (t .compatibility) small) at p)
 
 -- ---- a value v whose spans are places in s
 module _ (s l f : List ℕ) (at r : ℕ) (v : ValuePlace) where
@@ -82,6 +94,10 @@ module _ (s : List ℕ) (v : ValuePlace) (h : valueInRangeIn (valueBy s v) ≡ t
   unit-right n p t e q =
       let z : (leb (length (textOf s n)) 255 && leb 1 (length (textOf s p))) ≡ true = rw e at h in
       rw q (leb-true _ _ (and-eq-true-iff (leb (length (textOf s n)) 255) (leb 1 (length (textOf s p))) .0 z .0))
+
+  pub signal-right : (t : TypePlace) (d : DurationPlace) → v ≡ Signal t d → (innerTypeInRange (innerTypeIn t) && innerDurationInRange (innerDurationIn d)) ≡ true
+  unfolding valueBy valueInRangeIn valueInRange
+  signal-right t d e = rw e at h
 
 -- a bit beside bit 8 is an octet
 pub marked-fits : (b : Bool) (k : ℕ) → k ≡ bitText b → Fits w8 (128 + k)

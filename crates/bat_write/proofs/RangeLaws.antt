@@ -3,18 +3,31 @@
 use Prim.Native.Nat.{ℕ}
 use mathlib.Core.Path.{_≡_}
 use mathlib.Core.List.{List}
-use mathlib.Core.Bool.{Bool, _&&_}
+use mathlib.Core.Bool.{Bool, true, _&&_}
 use lib.ListN.{length}
 use lib.Dec.{leb}
 use Rattle.octets.specs.declared.Span.{Span}
 use Rattle.octets.specs.Spans.{textOf}
+use Rattle.bat.specs.declared.InnerDuration.{InnerDuration as DurationPlace}
+use Rattle.bat.specs.declared.InnerDuration.the-variants.{Untimed, Lasting as LastingFor}
 use Rattle.bat.specs.declared.Value.{Value as ValuePlace}
 use Rattle.bat.specs.declared.Value.the-variants.{Backbone, Address, Codecs as CodecsPlace, Report, Control, Unit as UnitPlace, Indicators}
 use Rattle.bat.specs.Values.{rightIndicators}
-use Rattle.bat.specs.Writing.{valueInRange}
-use Rattle.bat.specs.Meaning.{valueBy}
+use Rattle.bat.specs.Writing.{sevenBits, innerDurationInRange, valueInRange}
+use Rattle.bat.specs.Meaning.{innerDurationIn, valueBy}
 use Rattle.bat_write.specs.Texts.{codecsOf, reportOf, valueInRangeIn}
 
+-- ---- the duration of a signal
+module _ (d : DurationPlace) where
+  pub duration-none : d ≡ Untimed → true ≡ innerDurationInRange (innerDurationIn d)
+  unfolding innerDurationIn innerDurationInRange
+  duration-none e = rw e
+
+  pub duration-some : (c n : ℕ) → d ≡ LastingFor c n → sevenBits c ≡ innerDurationInRange (innerDurationIn d)
+  unfolding innerDurationIn innerDurationInRange
+  duration-some c n e = rw e
+
+-- ---- a value
 module _ (s : List ℕ) (v : ValuePlace) (b : Bool) where
   pub ranged : (w : ValuePlace) → v ≡ w → b ≡ valueInRangeIn (valueBy s w) → b ≡ valueInRangeIn (valueBy s v)
   ranged w e r = rw e r

@@ -83,8 +83,8 @@ are-unit-requires c κs = search needs
 enum-known-value-10 : tie.Need-enum-known-value-10
 enum-known-value-10 c = search needs
 
-is-signal-requires : tie.Need-is-signal-requires
-is-signal-requires c κs = search needs
+are-signal-requires : tie.Need-are-signal-requires
+are-signal-requires c κs = search needs
 
 enum-told-2 : tie.Need-enum-told-2
 enum-told-2 c = search needs
@@ -101,8 +101,8 @@ are-indicators-requires c κs = search needs
 enum-known-value-12 : tie.Need-enum-known-value-12
 enum-known-value-12 c = search needs
 
-is-signal-requires-2 : tie.Need-is-signal-requires-2
-is-signal-requires-2 c κs = search needs
+is-signal-requires : tie.Need-is-signal-requires
+is-signal-requires c κs = search needs
 
 enum-told-3 : tie.Need-enum-told-3
 enum-told-3 c = search needs
@@ -196,13 +196,13 @@ in-range-spec =
     text-requires-7
     are-unit-requires
     enum-known-value-10
-    is-signal-requires
+    are-signal-requires
     enum-told-2
     enum-known-value-11
     text-requires-8
     are-indicators-requires
     enum-known-value-12
-    is-signal-requires-2
+    is-signal-requires
     enum-told-3
     returns
     returns-2
