@@ -1,4 +1,4 @@
--- What is written is read back: an element's octets are framed as that element, whatever stands behind them, and its contents
+-- What is written is read back: an element's octets are framed as that element, whatever follows them, and its contents
 -- are decoded as the value that they were made from. For a constructor this holds of its inner elements first.
 -- Assumes nothing.
 use Prim.Native.Nat.{ℕ, suc, _+_, _*_, _/_, _%_, _≤_, _<_}

@@ -1,4 +1,4 @@
--- What it is that an element which is written is read back.
+-- What it means that a written element is read back.
 use Prim.Native.Nat.{ℕ}
 use mathlib.Core.Path.{_≡_}
 use mathlib.Core.List.{List, _++_}
@@ -6,8 +6,8 @@ use Rattle.bat.specs.Framing.{Element, whole, front, first}
 use Rattle.bat.specs.Values.{Value, decoded, meant, decoding}
 use Rattle.bat.specs.Writing.{identifierOf, valueText}
 
--- In front of rest the octets of a value's element are framed as one element, which has these octets and no more, the
--- value's identifier and the compatibility given, and is decoded as the value.
+-- The octets of a value's element, followed by rest, are framed as one element with exactly these octets. It has the
+-- value's identifier and the given compatibility, and is decoded as the value.
 pub record ReadBack (c : ℕ) (v : Value) (rest : List ℕ) : Type 0 where
   pub element : Element
   pub fronts : front (valueText c v ++ rest) ≡ first element rest

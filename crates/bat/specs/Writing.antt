@@ -1,6 +1,5 @@
--- Document 01, "Elements" and "Refusal numbers", what they say of writing: the one form in which an element is
--- written, and numbers 5 and 4. A length takes no more octets than it needs, bits that say nothing are 0, and
--- one compatibility octet stands for all.
+-- Document 01, "Elements" and "Refusal numbers", on writing: the one form in which an element is written, and numbers 5
+-- and 4. The length is the shortest, ignored bits are 0, and there is one compatibility octet.
 use Prim.Native.Nat.{ℕ, suc, _+_, _/_, _%_}
 use mathlib.Core.List.{List, [], _∷_, _++_}
 use mathlib.Core.Bool.{Bool, true, _&&_, cond}
@@ -20,7 +19,7 @@ sizeText n = cond (ltb n 128) ((128 + n) ∷ []) (n % 128 ∷ (128 + n / 128) �
 unfoldable pub elementText : ℕ → ℕ → List ℕ → List ℕ
 elementText i c s = i ∷ (sizeText (suc (length s)) ++ ((128 + c) ∷ s))
 
--- 0 or 1 as a bit
+-- a flag as a bit
 abbrev pub bitText : Bool → ℕ
 bitText b = cond b 1 0
 
@@ -120,11 +119,11 @@ unfoldable pub valueText : ℕ → Value → List ℕ
 valueText c v = elementText (identifierOf v) c (contentsText v)
 
 -- ---- what a writer puts into its buffer (`Puts`)
--- the octets to write: none where a field is out of range or the element is too long
+-- the octets to write: none if a field is out of range or the element is too long
 unfoldable pub elementOctets : ℕ → Value → Option (List ℕ)
 elementOctets c v = cond (valueInRange v && leb (length (valueText c v)) mostOctets) (some (valueText c v)) none
 
--- the same where there may be no value at all
+-- the same if there may be no value
 unfoldable pub elementOctetsIn : ℕ → Option Value → Option (List ℕ)
 elementOctetsIn c none = none
 elementOctetsIn c (some v) = elementOctets c v

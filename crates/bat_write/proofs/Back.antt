@@ -1,4 +1,4 @@
--- What `write_element` answers to have written is read back from the buffer as the value that was given: the octets are those of its element, which are read so whatever stands behind them.
+-- What `write_element` writes is read back from the buffer as the value that was given, whatever follows it.
 -- Assumes nothing.
 use Prim.Native.Nat.{ℕ}
 use mathlib.Core.Path.{_≡_, refl, sym, ap, _∙_}
@@ -12,17 +12,17 @@ use native.Mathlib.Omega.{arith}
 use borrow.Author.Tests.{leb-true}
 use Rattle.octets.proofs.PutsLaws.{puts-no, puts-some}
 use Rattle.octets.proofs.CaseLaws.{by-bool}
-use Rattle.bat.specs.declared.Value.{Value as ValuePlace}
+use Rattle.bat_write.specs.Code as code
 use Rattle.octets.specs.declared.Put.the-variants.{Octets}
 use Rattle.bat.specs.Framing.{mostOctets}
 use Rattle.bat.specs.Values.{Value, meant}
 use Rattle.octets.specs.Puts.{Puts}
 use Rattle.bat.specs.Writing.{valueInRange, valueText, elementOctets, elementOctetsIn}
-use Rattle.bat.specs.Meaning.{valueIn}
+use Rattle.bat.specs.ValueMeaning.{valueIn}
 use Rattle.bat.proofs.RoundTrip.{read-written}
 use Rattle.bat_write.specs.Back.{WrittenBack}
 
-module _ (s : List ℕ) (v : ValuePlace) (c : ℕ) (l : List ℕ) (n : ℕ) (f : List ℕ) where
+module _ (s : List ℕ) (v : code.Value) (c : ℕ) (l : List ℕ) (n : ℕ) (f : List ℕ) where
   back-right : (w : Value) → valueIn s v ≡ some w → (valueInRange w && leb (length (valueText (meant c) w)) mostOctets) ≡ true
       → Puts (some (valueText (meant c) w)) l (Octets n) f → WrittenBack s v c n f
   back-right w is h p =

@@ -1,4 +1,4 @@
--- A codec list is written anew element by element: what its elements are read as is a single codec each, whose text is the element's contents.
+-- A codec list is written again element by element: each is read as a single codec, whose text is the element's contents.
 -- Assumes nothing.
 use Prim.Native.Nat.{ℕ, _+_, _≤_, _<_}
 use mathlib.Core.Path.{_≡_, refl, sym, _∙_}
@@ -19,13 +19,13 @@ use Rattle.bat.specs.declared.Framed.the-variants.{Whole, Unframed, Ended}
 use Rattle.bat.specs.Framing.{Element, whole, first, unframed, ended, front, walk}
 use Rattle.bat.specs.Values.{InnerCodec, Codecs, allCodecs, offence, withSingle, onCodecs, isSingle, codecThen, codecsIn, innerCodec, rightSingle, singleCodec, meant}
 use Rattle.bat.specs.Writing.{elementText, codecText, codecsText, contentsText, innerCodecsInRange, valueInRange}
-use Rattle.bat.specs.Meaning.{elementIn, frontIn, WholeLength}
+use Rattle.bat.specs.FramingMeaning.{elementIn, frontIn, WholeLength}
 use Rattle.bat.proofs.WalkLaws.{size-small, front-size, front-nil, walk-ended, walk-unframed, walk-first, fold-ended, fold-unframed, fold-first, by-front}
 use Rattle.bat.proofs.CountLaws.{frame-ended, frame-unframed, frame-first}
 use Rattle.bat_read.specs.declared.Offence.{Offence}
 use Rattle.bat_read.specs.declared.Offence.the-variants.{At, Nowhere}
 use Rattle.bat_read.specs.Examining.{offenceOf}
-use Rattle.bat_write.specs.Texts.{listOf, codecsOf, valueInRangeIn, contentsIn, codecsAnew}
+use Rattle.bat_write.specs.Private.{listOf, codecsOf, valueInRangeIn, contentsIn, codecsAnew}
 
 -- ---- the contents of an element have at most 2,046 octets
 pub contents-small : (t : List ℕ) (x : Framed) (f : Frame) (w : ℕ) (u : List ℕ) → frontIn t x ≡ some (front t) → x ≡ Whole f → WholeLength f w → u ≡ elementIn t f .contents → length u ≤ 2046

@@ -6,8 +6,8 @@ ghost use lib.Dec.{leb};
 ghost use Rattle.bat.specs.Values.{rightSingle};
 ghost use Rattle.octets.specs.Spans.{inside};
 ghost use Rattle.bat.specs.Writing.{innerTypeInRange, innerDurationInRange};
-ghost use Rattle.bat.specs.Meaning.{valueBy, singleCodecIn, innerTypeIn, innerDurationIn, valueInside};
-ghost use Rattle.bat_write.specs.Texts.{codecsOf, reportOf, valueInRangeIn};
+ghost use Rattle.bat.specs.ValueMeaning.{valueBy, singleCodecIn, innerTypeIn, innerDurationIn, valueInside};
+ghost use Rattle.bat_write.specs.Private.{codecsOf, reportOf, valueInRangeIn};
 use bat::InnerDuration;
 use bat::InnerType;
 use bat::SingleCodec;
@@ -39,7 +39,7 @@ fn is_codec(c: SingleCodec, source: &[u8]) -> bool
     bat::ranges::right_codec(c.organisation, text(source, information))
 }
 
-// s is diagnostics and nothing else; the reason may be any.
+// s is diagnostics and nothing else; any reason will do.
 fn are_diagnostics(reason: u8, s: &[u8]) -> bool
     ensures { λ r. ⌜ r ≡ valueInRangeIn (reportOf reason (now (s .entry))) ⌝ }
 {
@@ -82,7 +82,7 @@ fn are_signal(kind: InnerType, duration: InnerDuration) -> bool
     false
 }
 
-// The value stands for one whose fields are in range.
+// The fields of the value are in range.
 pub(crate) fn in_range(value: Value, source: &[u8]) -> bool
     ensures { λ r. ⌜ r ≡ valueInRangeIn (valueBy (now (source .entry)) value) ⌝ }
 {
@@ -108,7 +108,7 @@ pub(crate) fn in_range(value: Value, source: &[u8]) -> bool
     }
 }
 
-// Both spans lie inside s.
+// Both spans are inside s.
 fn are_inside(s: &[u8], p: Span, q: Span) -> bool
     ensures { λ r. ⌜ r ≡ (inside (now (s .entry)) p && inside (now (s .entry)) q) ⌝ }
 {
@@ -118,7 +118,7 @@ fn are_inside(s: &[u8], p: Span, q: Span) -> bool
     false
 }
 
-// The spans of the value lie inside source.
+// The spans of the value are inside source.
 pub(crate) fn all_inside(value: Value, source: &[u8]) -> bool
     ensures { λ r. ⌜ r ≡ valueInside (now (source .entry)) value ⌝ }
 {

@@ -1,10 +1,10 @@
 -- `contents::push_contents` meets its contract. What each arm appends is the contents of the value that its match names.
 -- Assumes nothing.
 use borrow.Author.Needs.{needs}
-use Rattle.bat.specs.Meaning.{valueBy}
+use Rattle.bat.specs.ValueMeaning.{valueBy}
 use Rattle.bat.specs.Writing.{contentsText}
 use Rattle.bat_write.proofs.ContentsLaws.{standing, report-right, unit-right, signal-right, marked-fits}
-use Rattle.bat_write.specs.Texts.{contentsIn}
+use Rattle.bat_write.specs.Private.{contentsIn}
 use Rattle.bat_write.proofs.contents.push_contents.Statement.{statement}
 use Rattle.bat_write.proofs.contents.push_contents.Tie as tie
 

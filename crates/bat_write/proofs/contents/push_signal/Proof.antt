@@ -1,4 +1,4 @@
--- `contents::push_signal` meets its contract. The duration is appended behind the element of the type.
+-- `contents::push_signal` meets its contract. The duration is appended after the element of the type.
 -- Assumes nothing.
 use borrow.Author.Needs.{needs}
 use Rattle.bat_write.proofs.ContentsLaws.{signal-lasts, signal-then}

@@ -1,10 +1,10 @@
 -- `ranges::in_range` meets its contract. What each arm tests is the range of the value that its match names.
 -- Assumes nothing.
 use borrow.Author.Needs.{needs}
-use Rattle.bat.specs.Meaning.{valueBy}
+use Rattle.bat.specs.ValueMeaning.{valueBy}
 use Rattle.bat.specs.Writing.{valueInRange}
 use Rattle.bat_write.proofs.RangeLaws.{ranging}
-use Rattle.bat_write.specs.Texts.{valueInRangeIn}
+use Rattle.bat_write.specs.Private.{valueInRangeIn}
 use Rattle.bat_write.proofs.ranges.in_range.Statement.{statement}
 use Rattle.bat_write.proofs.ranges.in_range.Tie as tie
 
