@@ -1,4 +1,4 @@
--- The elements of the data are counted one after the other, from what stands behind those already counted.
+-- The elements of the data are counted one after the other, from what follows those already counted.
 -- Assumes nothing.
 use Prim.Native.Nat.{ℕ, _+_, _-_, _^_, _≤_, _<_}
 use mir.Syntax.{w64}
@@ -19,7 +19,8 @@ use Rattle.bat.specs.declared.Framed.the-variants.{Whole, Unframed, Ende
 use Rattle.bat.specs.declared.Counted.{Counted}
 use Rattle.bat.specs.declared.Counted.the-variants.{Elements, Refused}
 use Rattle.bat.specs.Framing.{Element, whole, Front, front, first, unframed, ended, elements, refused, mostOctets, roomFor, cut}
-use Rattle.bat.specs.Meaning.{wholeLength, elementIn, frontIn, WholeLength, countIn, countOf}
+use Rattle.bat.specs.FramingMeaning.{wholeLength, elementIn, frontIn, WholeLength, countOf}
+use Rattle.bat.specs.Private.{countIn}
 use Rattle.bat.proofs.WalkLaws.{front-within, front-nil, front-whole}
 use Rattle.bat.proofs.DataLaws.{elements-ended, elements-unframed, elements-first}
 
@@ -77,7 +78,7 @@ unfolding counted
 counted-more n e none = refl
 counted-more n e (some es) = ap Elements (omega arith)
 
--- at the place `at` of the data, behind n elements; y is the count of all
+-- at the place `at` of the data, after n elements; y is the count of all
 module _ (s : List ℕ) (at n : ℕ) (y : Counted) (inv : counted n (elements (drop at s)) ≡ y) where
   pub count-end : length s ≤ at → Elements n ≡ y
   unfolding counted

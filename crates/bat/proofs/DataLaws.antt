@@ -25,7 +25,7 @@ module _ (s : List ℕ) where
   unfolding elements
   elements-first e t q = fold-first (λ e es. Option·map (λ (r : List Element). e ∷ r) es) none (some []) s e t q
 
--- ---- the first element, and those behind it
+-- ---- the first element, and those after it
 map-some : (e d : Element) (o : Option (List Element)) (es : List Element) → Option·map (λ (r : List Element). d ∷ r) o ≡ some (e ∷ es) → (d ≡ e) × (o ≡ some es)
 map-some e d none es p = absurd (let z : _≡_ {A = ℕ} 0 1 = cc in omega arith)
 map-some e d (some r) es p = let q : d ∷ r ≡ e ∷ es = cc in let k : r ≡ es = cc in (cc, rw k)

@@ -18,7 +18,7 @@ use Rattle.bat.specs.declared.Size.the-variants.{Of, Missing}
 use Rattle.bat.specs.declared.Frame.{Frame}
 use Rattle.bat.specs.declared.Framed.the-variants.{Whole, Unframed, Ended}
 use Rattle.bat.specs.Framing.{octet, Length, sized, unsized, lengthOf, unmarked, countedBy, elementBy, sizedBy, front}
-use Rattle.bat.specs.Meaning.{sizeIn, elementIn, frontIn, HeaderLength}
+use Rattle.bat.specs.FramingMeaning.{sizeIn, elementIn, frontIn, HeaderLength}
 
 -- ---- octets
 pub octet-none : (s : List ℕ) (k : ℕ) → length s ≤ k → 0 ≡ octet k s
@@ -100,7 +100,7 @@ size-of t n k z p =
     (λ h. let q : some (sized (take k t) n (drop k t)) ≡ some z = rw (le-leb k (length t) h) at p in (h, cc))
     (λ h. let q : none ≡ some z = rw (lt-leb k (length t) h) at p in absurd (let z : _≡_ {A = ℕ} 0 1 = cc in omega arith))
 
--- behind the identifier stands t, whose length field is y
+-- after the identifier comes t, whose length field is y
 module _ (s : List ℕ) (one : 1 ≤ length s) (t : List ℕ) (is : t ≡ drop 1 s) (y : Size) (size : sizeIn t y ≡ some (lengthOf t)) where
   here : front s ≡ sizedBy (getD s 0 0) (lengthOf t)
   here = front-sized s one ∙ rw (← is)

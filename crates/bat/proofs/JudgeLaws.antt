@@ -5,7 +5,7 @@ use mathlib.Core.Bool.{false}
 use Rattle.bat.specs.declared.Outcome.the-variants.{PassOn, DiscardElement, DiscardData, Release}
 use Rattle.bat.specs.declared.Judged.{Judged}
 use Rattle.bat.specs.Judging.{isListed}
-use Rattle.bat.specs.Meaning.{outcomeNumber, judgementIn}
+use Rattle.bat.specs.JudgingMeaning.{outcomeNumber, judgementIn}
 
 module _ (j : Judged) where
   pub listed-pass : j .outcome ≡ PassOn → false ≡ isListed (judgementIn j)

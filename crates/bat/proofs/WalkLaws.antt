@@ -1,5 +1,5 @@
--- An element at the front of octets is those octets up to what stands behind it, and `walk` goes from one to the next:
--- the counter that it counts down, the length of the octets, never runs out, since what stands behind an element is shorter.
+-- An element at the front of octets is those octets up to what follows it, and `walk` goes from one to the next:
+-- the counter that it counts down, the length of the octets, never runs out, since what follows an element is shorter.
 -- Assumes nothing.
 use Prim.Native.Nat.{ℕ, zero, suc, _+_, _*_, _%_, _≤_, _<_}
 use mathlib.Core.Path.{_≡_, refl, sym, ap, _∙_}
@@ -15,7 +15,7 @@ use Rattle.bat.specs.Framing.{octet, Length, sized, unsized, lengthOf, u
 use Rattle.octets.proofs.CaseLaws.{by-eq, by-lt, by-le}
 
 -- ---- length
--- os is a length field of the number n, and t stands behind it in s.
+-- os is a length field of the number n, and t follows it in s.
 record IsSize (s os : List ℕ) (n : ℕ) (t : List ℕ) : Type 0 where
   small : n ≤ 2047
   low : length os ≤ 1 → n < 128
@@ -49,17 +49,17 @@ module _ (s os : List ℕ) (n : ℕ) (t : List ℕ) (p : lengthOf s ≡ sized os
   pub size-small : (n ≤ 2047) × (length os ≤ 2) × (1 ≤ length os) × (s ≡ os ++ t)
   size-small = let z = is-size s os n t p in (z .small, z .two, z .one, z .laid)
 
-  -- and seven where it has one octet
+  -- and seven if it has one octet
   pub size-low : length os ≤ 1 → n < 128
   size-low = is-size s os n t p .low
 
 -- ---- the front
--- What a length counts is its first octet, those behind it up to the first with bit 8 set, and the rest.
+-- What a length counts is its first octet, those after it up to the first with bit 8 set, and the rest.
 unmarked-split : (s : List ℕ) → unmarked s < length s → octet 0 s ∷ (take (unmarked s) (drop 1 s) ++ drop (suc (unmarked s)) s) ≡ s
 unmarked-split [] h = absurd (omega arith)
 unmarked-split (b ∷ s) h = ap (λ (l : List ℕ). b ∷ l) (take-append-drop (unmarked (b ∷ s)) s)
 
--- e and what stands behind it are s, and the length in e counts its compatibility and contents.
+-- e and what follows it are s, and the length in e counts its compatibility and contents.
 record Within (s : List ℕ) (e : Element) (t : List ℕ) : Type 0 where
   laid : s ≡ whole e ++ t
   counts : lengthOf (drop 1 s) ≡ sized (e .size) (suc (length (e .extension) + length (e .contents))) (e .compatibility ∷ (e .extension ++ (e .contents ++ t)))
@@ -102,11 +102,11 @@ within [] e t p = absurd (let z : _≡_ {A = ℕ} 0 1 = cc in omega arith)
 within (i ∷ s) e t p = within-sized i s (lengthOf s) e t refl p
 
 module _ (s : List ℕ) (e : Element) (t : List ℕ) (p : front s ≡ first e t) where
-  -- the octets are the element's, and then what stands behind it
+  -- the octets are the element's, and then what follows it
   pub front-within : s ≡ whole e ++ t
   front-within = within s e t p .laid
 
-  -- behind the identifier stands the length, which counts compatibility and contents
+  -- after the identifier comes the length, which counts compatibility and contents
   pub front-size : lengthOf (drop 1 s) ≡ sized (e .size) (suc (length (e .extension) + length (e .contents))) (e .compatibility ∷ (e .extension ++ (e .contents ++ t)))
   front-size = within s e t p .counts
 
@@ -200,7 +200,7 @@ module _ (P : List ℕ → Type 0) (nil : P []) (bad : (s : List ℕ) → front 
   pub by-front : (s : List ℕ) → P s
   by-front s = by-front-within (length s) s (le-refl (length s))
 
--- ---- the same where the distance says nothing
+-- ---- the same without the distance
 module _ {X : Type 0} (step : Element → X → X) (bad end : X) where
   walk-anywhere : (s : List ℕ) (c d : ℕ) → walk (λ e d x. step e x) (λ d. bad) end c s ≡ walk (λ e d x. step e x) (λ d. bad) end d s
   walk-anywhere =

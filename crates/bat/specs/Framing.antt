@@ -1,6 +1,6 @@
--- Document 01, "Elements", the first two paragraphs (YD/T 1193.4 after Q.765.5, 4.6.1.1): the four fields of an element, and how
--- application data is cut into elements. Numbers 1, 2 and 3. Stricter than 4.6.1.1, which sets no bound: data
--- has at most 2,048 octets, and a length is not 0, since it counts a compatibility octet.
+-- Document 01, "Elements", the first two paragraphs (YD/T 1193.4 after Q.765.5, 4.6.1.1): the four fields of an element, and
+-- how application data is cut into elements. Numbers 1, 2 and 3. Stricter than 4.6.1.1, which sets no bound: data has at
+-- most 2,048 octets, and a length is not 0, since it counts a compatibility octet.
 use Prim.Native.Nat.{ℕ, zero, suc, _+_, _*_, _%_}
 use mathlib.Core.List.{List, [], _∷_, _++_}
 use mathlib.Core.Bool.{Bool, cond}
@@ -13,20 +13,20 @@ use lib.Dec.{leb, ltb, eqb}
 abbrev pub bit8 : ℕ → Bool
 bit8 b = leb 128 b
 
--- octet k of s, from 0; 0 where there is none
+-- octet k of s, from 0; 0 if there is none
 abbrev pub octet : ℕ → List ℕ → ℕ
 octet k s = getD s k 0
 
 -- ---- length
--- A length field: its octets, its number, and what stands behind it.
+-- A length field: its octets, its number, and what follows it.
 pub data Length : Type 0 where
   sized : List ℕ → ℕ → List ℕ → Length
   unsized : Length
 
--- The length at the front of s, in one octet or two. Bit 8 of the first says that it is the last; its other bits
--- are the low ones of the number. A second octet, which has to be the last, adds bits 4 to 1 above them, and
--- its bits 7 to 5 say nothing. So a small number can stand in two octets. Where an octet is missing, or the
--- second says that it goes on, there is no length.
+-- The length at the front of s, in one or two octets. If bit 8 of the first is set, it is the only one. Its other bits are
+-- the low bits of the number. The second octet, which must be the last, adds its bits 4 to 1 as the high bits; its bits 7
+-- to 5 are ignored. So a small number may take two octets. If an octet is missing, or the second is not the last, there
+-- is no length.
 unfoldable pub lengthOf : List ℕ → Length
 lengthOf [] = unsized
 lengthOf (a ∷ []) = cond (bit8 a) (sized (a ∷ []) (a % 128) []) unsized
@@ -35,15 +35,15 @@ lengthOf (a ∷ b ∷ s) =
     (cond (bit8 b) (sized (a ∷ b ∷ []) (a % 128 + b % 16 * 128) s) unsized)
 
 -- ---- compatibility
--- The last compatibility octet is the first that has bit 8 set. How many octets of s stand before it; all of them
--- where there is none.
+-- The last compatibility octet is the first one with bit 8 set. How many octets of s are before it; all of them if there
+-- is none.
 unfoldable pub unmarked : List ℕ → ℕ
 unmarked [] = 0
 unmarked (b ∷ s) = cond (bit8 b) 0 (suc (unmarked s))
 
 -- ---- element
--- Its fields in their order. `size` are the octets of the length; `compatibility` is the first compatibility
--- octet, the one that means something, and `extension` are the others.
+-- Its fields in order. `size` holds the octets of the length; `compatibility` is the first compatibility octet, the only
+-- one with a meaning, and `extension` holds the others.
 pub record Element : Type 0 where
   pub identifier : ℕ
   pub size : List ℕ
@@ -51,7 +51,7 @@ pub record Element : Type 0 where
   pub extension : List ℕ
   pub contents : List ℕ
 
--- the octets in front of the contents
+-- the octets before the contents
 unfoldable pub header : Element → List ℕ
 header e = e .identifier ∷ (e .size ++ (e .compatibility ∷ e .extension))
 
@@ -59,15 +59,14 @@ header e = e .identifier ∷ (e .size ++ (e .compatibility ∷ e .extension))
 unfoldable pub whole : Element → List ℕ
 whole e = header e ++ e .contents
 
--- What stands at the front of octets: an element and what is behind it, nothing that can be framed, or
--- the end.
+-- What is at the front of octets: an element and what follows it, octets that can't be framed, or nothing.
 pub data Front : Type 0 where
   first : Element → List ℕ → Front
   unframed : Front
   ended : Front
 
--- What the length counts, s, is compatibility and contents; t stands behind it. Framing fails where
--- compatibility does not end inside s.
+-- The length counts s, which is compatibility and contents; t follows it. Framing fails if the compatibility does not
+-- end inside s.
 unfoldable pub countedBy : ℕ → List ℕ → List ℕ → List ℕ → Front
 countedBy i size s t =
     cond (ltb (unmarked s) (length s))
@@ -80,31 +79,33 @@ countedBy i size s t =
     }) t)
     unframed
 
--- It fails too where the length n is 0, and where the element passes the end of t.
+-- It also fails if the length n is 0, or if the element goes past the end of t.
 unfoldable pub elementBy : ℕ → List ℕ → ℕ → List ℕ → Front
-elementBy i size n t = cond (eqb n 0) unframed (cond (ltb (length t) n) unframed (countedBy i size (take n t) (drop n t)))
+elementBy i size n t =
+    cond (eqb n 0) unframed
+    (cond (ltb (length t) n) unframed
+    (countedBy i size (take n t) (drop n t)))
 
--- the element with identifier i, by the length behind it
+-- the element with identifier i, by the length after it
 unfoldable pub sizedBy : ℕ → Length → Front
 sizedBy i (sized size n t) = elementBy i size n t
 sizedBy i unsized = unframed
 
--- what stands at the front of octets: an identifier, then a length and what it counts
+-- an identifier, then a length and what it counts
 unfoldable pub front : List ℕ → Front
 front [] = ended
 front (i ∷ s) = sizedBy i (lengthOf s)
 
--- by what stands at the front
+-- by cases on what is at the front
 unfoldable pub onFront : {X : Type 0} → Front → (Element → List ℕ → X) → X → X → X
 onFront (first e t) go bad end = go e t
 onFront unframed go bad end = bad
 onFront ended go bad end = end
 
--- ---- elements one behind the other
--- What the elements of s come to, of which the first stands d octets behind some point. `step` takes an
--- element, its distance from that point, and what those behind it come to; `bad` takes the distance of
--- one that can't be framed. An element has octets, so there are at most as many as s has octets: k
--- counts them down.
+-- ---- one element after the other
+-- A fold over the elements of s, the first of which is d octets after some point. `step` takes an element, its distance
+-- from that point, and the result for the elements after it; `bad` takes the distance of octets that can't be framed.
+-- Every element has octets, so s has no more elements than octets: k counts down from that.
 unfoldable pub walkFrom : {X : Type 0} → (Element → ℕ → X → X) → (ℕ → X) → X → ℕ → ℕ → List ℕ → X
 walkFrom step bad end zero d s = end
 walkFrom step bad end (suc k) d s =
@@ -113,28 +114,28 @@ walkFrom step bad end (suc k) d s =
 unfoldable pub walk : {X : Type 0} → (Element → ℕ → X → X) → (ℕ → X) → X → ℕ → List ℕ → X
 walk step bad end d s = walkFrom step bad end (length s) d s
 
--- the same where the distance says nothing
+-- the same without the distance
 unfoldable pub fold : {X : Type 0} → (Element → X → X) → X → X → List ℕ → X
 fold step bad end s = walk (λ e d x. step e x) (λ d. bad) end 0 s
 
 -- ---- application data
--- its elements, where all of it can be framed; empty data has none
+-- its elements, if all of it can be framed; empty data has none
 unfoldable pub elements : List ℕ → Option (List Element)
 elements s = fold (λ e es. Option·map (λ (r : List Element). e ∷ r) es) none (some []) s
 
--- the most octets of application data, and of a whole element
+-- application data, and a whole element, have at most so many octets
 abbrev pub mostOctets : ℕ
 mostOctets = 2048
 
--- Application data is refused by a number, or taken as its elements.
+-- Application data is refused with a number, or taken as its elements.
 pub data Cut : Type 0 where
   refused : ℕ → Cut
   taken : List Element → Cut
 
--- the table is too small
+-- number 3 if the table is too small
 unfoldable pub roomFor : ℕ → List Element → Cut
 roomFor entries es = cond (ltb entries (length es)) (refused 3) (taken es)
 
--- the data is too long; it can't be framed; the table is too small: the first of these that holds
+-- number 1 if the data is too long, otherwise 2 if it can't be framed, otherwise 3 if the table is too small
 unfoldable pub cut : ℕ → List ℕ → Cut
 cut entries s = cond (ltb mostOctets (length s)) (refused 1) (Option·elim (elements s) (refused 2) (roomFor entries))

@@ -1,7 +1,6 @@
--- Document 01, "Elements", the list of identifiers (YD/T 1193.4 after Q.765.5, 4.6.1.2 to 4.6.1.17), simple elements
--- in the order of their numbers and then the two constructors: what the contents of an element are decoded as, if
--- they are. Where Q.765.5 leaves a code spare or a length open, document 01's ranges decide: outside them the
--- element is not recognised.
+-- Document 01, "Elements", the list of identifiers (YD/T 1193.4 after Q.765.5, 4.6.1.2 to 4.6.1.17): what the contents of
+-- an element are decoded as. Simple elements come in the order of their numbers, then the two constructors. Where
+-- Q.765.5 leaves a code spare or a length open, document 01's ranges decide: outside them the element is unrecognised.
 use Prim.Native.Nat.{ℕ, suc, _+_, _*_, _%_}
 use mathlib.Core.List.{List, [], _∷_}
 use mathlib.Core.Bool.{Bool, true, false, _&&_, cond}
@@ -14,19 +13,19 @@ use Rattle.bat.specs.declared.Place.the-variants.{Itself, Inner}
 use Rattle.bat.specs.Framing.{octet, unmarked, Element, whole, front, onFront, walk}
 
 -- ---- values
--- What a compatibility report says of one element: its identifier, and how many octets behind that the
--- identifier of the inner element at fault stands; 0 where the fault is its own.
+-- What a compatibility report says about one element: its identifier, and the distance in octets from it to the
+-- identifier of the inner element at fault; 0 if the element itself is at fault.
 pub record Diagnostic : Type 0 where
   pub identifier : ℕ
   pub index : ℕ
 
--- Organisation, and the octets behind it: type and configuration.
+-- Organisation, and the octets after it: type and configuration.
 pub record SingleCodec : Type 0 where
   pub organisation : ℕ
   pub information : List ℕ
 
--- What an inner element of a constructor holds, with the element's own compatibility: bits 7 to 1 of its
--- first compatibility octet.
+-- An inner element of a constructor: what it holds, and its own compatibility, which is bits 7 to 1 of its first
+-- compatibility octet.
 pub record InnerCodec : Type 0 where
   pub compatibility : ℕ
   pub codec : SingleCodec
@@ -73,14 +72,19 @@ pub data Value : Type 0 where
   -- 15
   duration : ℕ → Value
 
--- An element is decoded as a value, or it is not recognised. The place says what is at fault: the element
--- itself, or the first faulty inner element, by how many octets of the contents stand before it.
+-- An element is decoded as a value, or it is unrecognised. The place says what is at fault: the element itself, or its
+-- first faulty inner element, given by its position in the contents.
 pub data Decoding : Type 0 where
   decoded : Value → Decoding
   unrecognised : Place → Decoding
 
+-- the element itself is at fault
 abbrev pub wrong : Decoding
 wrong = unrecognised Itself
+
+-- x if b holds, otherwise wrong
+abbrev pub when : Bool → Decoding → Decoding
+when b x = cond b x wrong
 
 -- bits 7 to 1 of a compatibility octet; bit 8 only says whether another follows
 abbrev pub meant : ℕ → ℕ
@@ -95,38 +99,36 @@ abbrev pub sixteenBits : List ℕ → ℕ
 sixteenBits s = octet 0 s * 256 + octet 1 s
 
 -- ---- simple elements
--- 1, action (4.6.1.3): a single octet, whose code is an action's
+-- 1, action (4.6.1.3): a single octet, an action code
 unfoldable pub actionIn : List ℕ → Decoding
-actionIn s = cond (eqb (length s) 1) (cond (isAction (octet 0 s)) (decoded (action (octet 0 s))) wrong) wrong
+actionIn s = when (eqb (length s) 1) (when (isAction (octet 0 s)) (decoded (action (octet 0 s))))
 
--- 2, backbone connection identifier (4.6.1.4): no more than four octets, but some
+-- 2, backbone connection identifier (4.6.1.4): at least one octet, at most four
 unfoldable pub backboneIn : List ℕ → Decoding
-backboneIn s = cond (leb 1 (length s) && leb (length s) 4) (decoded (backbone s)) wrong
+backboneIn s = when (leb 1 (length s) && leb (length s) 4) (decoded (backbone s))
 
--- 3, address of the interworking function (4.6.1.5): no more than twenty octets, but some
+-- 3, address of the interworking function (4.6.1.5): at least one octet, at most twenty
 unfoldable pub addressIn : List ℕ → Decoding
-addressIn s = cond (leb 1 (length s) && leb (length s) 20) (decoded (address s)) wrong
+addressIn s = when (leb 1 (length s) && leb (length s) 20) (decoded (address s))
 
--- 5, single codec (4.6.1.7): an organisation up to 2, and what it says of the codec, which is not nothing. The
--- ITU-T (1) begins with a type, up to 12, and its types 1 to 6 take no configuration. Configuration that is
--- there is kept as it stands.
+-- 5, single codec (4.6.1.7): an organisation, at most 2, and at least one octet of codec information. For the ITU-T (1)
+-- the information begins with a type, at most 12, and types 1 to 6 have no configuration. Any other configuration is
+-- kept unread.
 unfoldable pub ituCodec : List ℕ → Bool
-ituCodec s = cond (leb (octet 0 s) 12) (cond (leb 1 (octet 0 s) && leb (octet 0 s) 6) (eqb (length s) 1) true) false
+ituCodec s = leb (octet 0 s) 12 && cond (leb 1 (octet 0 s) && leb (octet 0 s) 6) (eqb (length s) 1) true
 
 unfoldable pub rightSingle : SingleCodec → Bool
 rightSingle c =
-    cond (leb 1 (length (c .information)))
-    (cond (leb (c .organisation) 2) (cond (eqb (c .organisation) 1) (ituCodec (c .information)) true) false)
-    false
+    leb 1 (length (c .information)) && leb (c .organisation) 2 && cond (eqb (c .organisation) 1) (ituCodec (c .information)) true
 
 abbrev pub singleCodec : List ℕ → SingleCodec
 singleCodec s = record { organisation = octet 0 s; information = drop 1 s }
 
 unfoldable pub singleIn : List ℕ → Decoding
-singleIn s = cond (rightSingle (singleCodec s)) (decoded (single (singleCodec s))) wrong
+singleIn s = when (rightSingle (singleCodec s)) (decoded (single (singleCodec s)))
 
--- 6, compatibility report (4.6.1.8): a reason, of whatever code, and any number of diagnostics, each an
--- identifier and sixteen bits of index
+-- 6, compatibility report (4.6.1.8): a reason, with any code, and any number of diagnostics, each an identifier and a
+-- 16-bit index
 unfoldable pub diagnosticsIn : List ℕ → Option (List Diagnostic)
 diagnosticsIn [] = some []
 diagnosticsIn (i ∷ []) = none
@@ -138,58 +140,58 @@ unfoldable pub reportIn : List ℕ → Decoding
 reportIn [] = wrong
 reportIn (r ∷ s) = Option·elim (diagnosticsIn s) wrong (λ ds. decoded (report r ds))
 
--- 7, bearer network connection characteristics (4.6.1.9): a single octet, no more than 4
+-- 7, bearer network connection characteristics (4.6.1.9): a single octet, at most 4
 unfoldable pub characteristicsIn : List ℕ → Decoding
-characteristicsIn s = cond (eqb (length s) 1) (cond (leb (octet 0 s) 4) (decoded (characteristics (octet 0 s))) wrong) wrong
+characteristicsIn s = when (eqb (length s) 1) (when (leb (octet 0 s) 4) (decoded (characteristics (octet 0 s))))
 
--- 8, bearer control information (4.6.1.10): whatever there is, but something
+-- 8, bearer control information (4.6.1.10): any octets, at least one
 unfoldable pub controlIn : List ℕ → Decoding
-controlIn s = cond (leb 1 (length s)) (decoded (control s)) wrong
+controlIn s = when (leb 1 (length s)) (decoded (control s))
 
--- 9, bearer control tunnelling (4.6.1.11): a single octet, of which bit 1 alone says anything
+-- 9, bearer control tunnelling (4.6.1.11): a single octet; bits 8 to 2 are ignored
 unfoldable pub tunnellingIn : List ℕ → Decoding
-tunnellingIn s = cond (eqb (length s) 1) (decoded (tunnelling (bit1 (octet 0 s)))) wrong
+tunnellingIn s = when (eqb (length s) 1) (decoded (tunnelling (bit1 (octet 0 s))))
 
--- 10, bearer control unit identifier (4.6.1.12): the length of a network id, 0 too, that id, and a local id,
--- which is not empty
+-- 10, bearer control unit identifier (4.6.1.12): the length of the network id, which may be 0, the network id, and a
+-- local id, which is not empty
 unfoldable pub unitIn : List ℕ → Decoding
 unitIn [] = wrong
-unitIn (n ∷ s) = cond (ltb n (length s)) (decoded (controlUnit (take n s) (drop n s))) wrong
+unitIn (n ∷ s) = when (ltb n (length s)) (decoded (controlUnit (take n s) (drop n s)))
 
--- 12, bearer redirection capability (4.6.1.14): octets that go on to the first with bit 8 set, and end there; the
--- capability is bit 1 of the first of them
+-- 12, bearer redirection capability (4.6.1.14): the first octet with bit 8 set is the last one; the capability is
+-- bit 1 of the first octet
 unfoldable pub capabilityIn : List ℕ → Decoding
-capabilityIn s = cond (eqb (suc (unmarked s)) (length s)) (decoded (capability (bit1 (octet 0 s)))) wrong
+capabilityIn s = when (eqb (suc (unmarked s)) (length s)) (decoded (capability (bit1 (octet 0 s))))
 
--- 13, bearer redirection indicators (4.6.1.15): no more than sixteen codes of indicators, but some
+-- 13, bearer redirection indicators (4.6.1.15): one to sixteen indicator codes
 unfoldable pub allIndicators : List ℕ → Bool
 allIndicators [] = true
 allIndicators (b ∷ s) = isIndicator b && allIndicators s
 
 unfoldable pub rightIndicators : List ℕ → Bool
-rightIndicators s = cond (leb 1 (length s) && leb (length s) 16) (allIndicators s) false
+rightIndicators s = leb 1 (length s) && leb (length s) 16 && allIndicators s
 
 unfoldable pub indicatorsIn : List ℕ → Decoding
-indicatorsIn s = cond (rightIndicators s) (decoded (indicators s)) wrong
+indicatorsIn s = when (rightIndicators s) (decoded (indicators s))
 
--- 14, signal type (4.6.1.16): a single octet, whose code is a signal's
+-- 14, signal type (4.6.1.16): a single octet, a signal code
 unfoldable pub rightType : List ℕ → Bool
 rightType s = eqb (length s) 1 && isSignal (octet 0 s)
 
 unfoldable pub typeIn : List ℕ → Decoding
-typeIn s = cond (rightType s) (decoded (signalType (octet 0 s))) wrong
+typeIn s = when (rightType s) (decoded (signalType (octet 0 s)))
 
 -- 15, duration (4.6.1.17): sixteen bits
 unfoldable pub durationIn : List ℕ → Decoding
-durationIn s = cond (eqb (length s) 2) (decoded (duration (sixteenBits s))) wrong
+durationIn s = when (eqb (length s) 2) (decoded (duration (sixteenBits s)))
 
 -- ---- constructors
--- A constructor is decoded only if everything in it is. If not, it is at fault itself where it is empty, and else
--- the place is that of the first inner element that is not what should stand there: another identifier,
--- other contents, or octets that make no element.
+-- A constructor is decoded only if all of its inner elements are right. An empty one is itself at fault. Otherwise the
+-- fault is at the first inner element that is not allowed there: it has another identifier or wrong contents, or it
+-- can't be framed.
 
--- 4, codec list (4.6.1.6): single codecs one behind the other, and at least one.
--- the codecs, or how many octets of the contents stand before the first offence
+-- 4, codec list (4.6.1.6): one or more single codecs.
+-- The codecs, or the position in the contents of the first offence.
 pub data Codecs : Type 0 where
   allCodecs : List InnerCodec → Codecs
   offence : ℕ → Codecs
@@ -218,7 +220,7 @@ unfoldable pub codecListIn : List ℕ → Decoding
 codecListIn s =
     cond (eqb (length s) 0) wrong (onCodecs (codecsIn s) (λ cs. decoded (codecs cs)) (λ d. unrecognised (Inner d)))
 
--- 11, signal (4.6.1.13): a signal type, and behind it a duration or nothing.
+-- 11, signal (4.6.1.13): a signal type, then at most one duration.
 unfoldable pub isType : Element → Bool
 isType e = eqb (e .identifier) 14 && rightType (e .contents)
 
@@ -231,14 +233,14 @@ innerType e = record { compatibility = meant (e .compatibility); kind = octet 0 
 abbrev pub innerDuration : Element → InnerDuration
 innerDuration e = lasting (meant (e .compatibility)) (sixteenBits (e .contents))
 
--- behind the 14, which has d octets, and the 15 e comes t
+-- after the 14, which has d octets, and the 15 e comes t
 unfoldable pub lastBy : InnerType → ℕ → Element → List ℕ → Decoding
 lastBy k d e t =
     cond (isDuration e)
     (cond (eqb (length t) 0) (decoded (signal k (innerDuration e))) (unrecognised (Inner (d + length (whole e)))))
     (unrecognised (Inner d))
 
--- behind the 14, which has d octets, comes t
+-- after the 14, which has d octets, comes t
 unfoldable pub timedBy : InnerType → ℕ → List ℕ → Decoding
 timedBy k d t = onFront (front t) (lastBy k d) (unrecognised (Inner d)) (decoded (signal k untimed))
 
@@ -249,7 +251,7 @@ unfoldable pub signalIn : List ℕ → Decoding
 signalIn s = onFront (front s) signalBy (unrecognised (Inner 0)) wrong
 
 -- ---- by identifier
--- An identifier that is not among these is unrecognised whatever the contents; so are those for national use.
+-- Any other identifier, national ones included, is unrecognised whatever its contents.
 unfoldable pub decoding : ℕ → List ℕ → Decoding
 decoding i s =
     cond (eqb i 1) (actionIn s)

@@ -1,6 +1,5 @@
--- Document 01, "Elements" and "Refusal numbers", what they say of writing: the one form in which an element is
--- written, and numbers 5 and 4. A length takes no more octets than it needs, bits that say nothing are 0, and
--- one compatibility octet stands for all.
+-- Document 01, "Elements" and "Refusal numbers", on writing: the one form in which an element is written, and numbers 5
+-- and 4. The length is the shortest, ignored bits are 0, and there is one compatibility octet.
 use Prim.Native.Nat.{ℕ, suc, _+_, _/_, _%_}
 use mathlib.Core.List.{List, [], _∷_, _++_}
 use mathlib.Core.Bool.{Bool, true, _&&_, cond}
@@ -9,7 +8,7 @@ use lib.ListN.{length}
 use lib.Dec.{leb, ltb}
 use Rattle.codes.specs.Codes.{isAction, isSignal}
 use Rattle.bat.specs.Framing.{mostOctets}
-use Rattle.bat.specs.Values.{Diagnostic, SingleCodec, InnerCodec, InnerDuration, untimed, lasting, Value, action, backbone, address, codecs, single, report, characteristics, control, tunnelling, controlUnit, signal, capability, indicators, signalType, duration, rightSingle, rightIndicators}
+use Rattle.bat.specs.Values.{Diagnostic, SingleCodec, InnerCodec, InnerType, InnerDuration, untimed, lasting, Value, action, backbone, address, codecs, single, report, characteristics, control, tunnelling, controlUnit, signal, capability, indicators, signalType, duration, rightSingle, rightIndicators}
 
 -- ---- an element's octets
 -- the shortest form of a length
@@ -20,7 +19,7 @@ sizeText n = cond (ltb n 128) ((128 + n) ∷ []) (n % 128 ∷ (128 + n / 128) �
 unfoldable pub elementText : ℕ → ℕ → List ℕ → List ℕ
 elementText i c s = i ∷ (sizeText (suc (length s)) ++ ((128 + c) ∷ s))
 
--- 0 or 1 as a bit
+-- a flag as a bit
 abbrev pub bitText : Bool → ℕ
 bitText b = cond b 1 0
 
@@ -78,24 +77,38 @@ contentsText (indicators s) = s
 contentsText (signalType n) = n ∷ []
 contentsText (duration n) = sixteenBitsText n
 
-unfoldable pub allSinglesRight : List InnerCodec → Bool
-allSinglesRight [] = true
-allSinglesRight (c ∷ cs) = rightSingle (c .codec) && allSinglesRight cs
+-- the compatibility of an inner element: bits 7 to 1 of its octet, bit 8 of which is always written set
+abbrev pub sevenBits : ℕ → Bool
+sevenBits c = ltb c 128
+
+abbrev pub innerCodecInRange : InnerCodec → Bool
+innerCodecInRange c = sevenBits (c .compatibility) && rightSingle (c .codec)
+
+unfoldable pub innerCodecsInRange : List InnerCodec → Bool
+innerCodecsInRange [] = true
+innerCodecsInRange (c ∷ cs) = innerCodecInRange c && innerCodecsInRange cs
+
+abbrev pub innerTypeInRange : InnerType → Bool
+innerTypeInRange k = sevenBits (k .compatibility) && isSignal (k .kind)
+
+unfoldable pub innerDurationInRange : InnerDuration → Bool
+innerDurationInRange untimed = true
+innerDurationInRange (lasting c n) = sevenBits c
 
 -- Every field is in the range in which it is decoded. A field that is held in just the bits in which it is
--- written (an octet, sixteen bits, the seven of a compatibility octet) has no other range.
+-- written (an octet, sixteen bits) has no other range.
 unfoldable pub valueInRange : Value → Bool
 valueInRange (action n) = isAction n
 valueInRange (backbone s) = leb 1 (length s) && leb (length s) 4
 valueInRange (address s) = leb 1 (length s) && leb (length s) 20
-valueInRange (codecs cs) = leb 1 (length cs) && allSinglesRight cs
+valueInRange (codecs cs) = leb 1 (length cs) && innerCodecsInRange cs
 valueInRange (single c) = rightSingle c
 valueInRange (report r ds) = true
 valueInRange (characteristics n) = leb n 4
 valueInRange (control s) = leb 1 (length s)
 valueInRange (tunnelling b) = true
 valueInRange (controlUnit n l) = leb (length n) 255 && leb 1 (length l)
-valueInRange (signal k t) = isSignal (k .kind)
+valueInRange (signal k t) = innerTypeInRange k && innerDurationInRange t
 valueInRange (capability b) = true
 valueInRange (indicators s) = rightIndicators s
 valueInRange (signalType n) = isSignal n
@@ -106,11 +119,11 @@ unfoldable pub valueText : ℕ → Value → List ℕ
 valueText c v = elementText (identifierOf v) c (contentsText v)
 
 -- ---- what a writer puts into its buffer (`Puts`)
--- the octets to write: none where a field is out of range or the element is too long
+-- the octets to write: none if a field is out of range or the element is too long
 unfoldable pub elementOctets : ℕ → Value → Option (List ℕ)
 elementOctets c v = cond (valueInRange v && leb (length (valueText c v)) mostOctets) (some (valueText c v)) none
 
--- the same where there may be no value at all
+-- the same if there may be no value
 unfoldable pub elementOctetsIn : ℕ → Option Value → Option (List ℕ)
 elementOctetsIn c none = none
 elementOctetsIn c (some v) = elementOctets c v

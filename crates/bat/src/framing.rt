@@ -2,7 +2,8 @@
 ghost use mathlib.Core.Path.{_≡_};
 ghost use mathlib.Core.Option.{some};
 ghost use Rattle.bat.specs.Framing.{octet, unmarked, lengthOf, front, elements, cut};
-ghost use Rattle.bat.specs.Meaning.{sizeIn, frontIn, elementIn, HeaderLength, WholeLength, countIn, countOf};
+ghost use Rattle.bat.specs.FramingMeaning.{sizeIn, frontIn, elementIn, HeaderLength, WholeLength, countOf};
+ghost use Rattle.bat.specs.Private.{countIn};
 use crate::Counted;
 use crate::Frame;
 use crate::Framed;
@@ -38,7 +39,7 @@ pub fn read_size(s: &[u8]) -> Size
     Size::Of(wide(a % 128) + wide(b % 16) * 128, 2)
 }
 
-// How many octets of s stand in front of the first that has bit 8 set.
+// How many octets of s are before the first with bit 8 set.
 pub fn count_unmarked(s: &[u8]) -> usize
     ensures { λ r. ⌜ r ≡ unmarked (now (s .entry)) ⌝ }
 {
@@ -52,7 +53,7 @@ pub fn count_unmarked(s: &[u8]) -> usize
     i
 }
 
-// Octet k of s, from 0; 0 where there is none.
+// Octet k of s, from 0; 0 if there is none.
 pub fn octet_at(s: &[u8], k: usize) -> u8
     ensures { λ r. ⌜ r ≡ octet k (now (s .entry)) ⌝ }
 {
@@ -62,7 +63,7 @@ pub fn octet_at(s: &[u8], k: usize) -> u8
     0
 }
 
-// What stands at the front of s.
+// What is at the front of s.
 pub fn first_element(s: &[u8]) -> Framed
     ensures { λ r. ⌜ frontIn (now (s .entry)) r ≡ some (front (now (s .entry))) ⌝ }
 {
@@ -96,7 +97,7 @@ pub fn first_element(s: &[u8]) -> Framed
     Framed::Unframed
 }
 
-// How many octets of an element stand in front of its contents.
+// How many octets of an element are before its contents.
 pub fn header_length(f: Frame) -> usize
     ensures { λ r. ⌜ HeaderLength f r ⌝ }
 {
@@ -143,8 +144,8 @@ fn count_elements(data: &[u8]) -> Counted
     Counted::Elements(n)
 }
 
-// How many elements the data has, or the number that refuses it: 1 where it is too long, 2 where it
-// can't be framed, 3 where the table is too small.
+// How many elements the data has, or the number that refuses it: 1 if it is too long, 2 if it can't be framed,
+// 3 if the table is too small.
 pub fn count(data: &[u8], entries: usize) -> Counted
     ensures { λ r. ⌜ r ≡ countOf (cut entries (now («data» .entry))) ⌝ }
 {

@@ -2,7 +2,7 @@
 ghost use mathlib.Core.Path.{_≡_};
 ghost use Prim.Native.Nat.{_%_, _/_};
 ghost use Rattle.bat.specs.Judging.{secondChoice, outcomeOf, noticeOf, judgement, isListed};
-ghost use Rattle.bat.specs.Meaning.{outcomeNumber, judgementIn};
+ghost use Rattle.bat.specs.JudgingMeaning.{outcomeNumber, judgementIn};
 use crate::Diagnostic;
 use crate::Judged;
 use crate::Outcome;
@@ -24,7 +24,7 @@ fn numbered(n: u8) -> Outcome
     Outcome::Release
 }
 
-// The outcome of the second choice: what is done where passing on is not possible.
+// The outcome of the second choice: what to do if passing on is not possible.
 fn second_choice(n: u8) -> Outcome
     ensures { λ r. ⌜ outcomeNumber r ≡ secondChoice (n % 4) ⌝ }
 {
@@ -34,7 +34,7 @@ fn second_choice(n: u8) -> Outcome
     numbered(n)
 }
 
-// What an element with the compatibility octet c asks for, where passing on is possible or not.
+// What an element with the compatibility octet c asks for. `pass` says whether passing on is possible.
 pub fn outcome(c: u8, pass: bool) -> Outcome
     ensures { λ r. ⌜ outcomeNumber r ≡ outcomeOf pass c ⌝ }
 {
@@ -47,7 +47,7 @@ pub fn outcome(c: u8, pass: bool) -> Outcome
     second_choice(c / 16)
 }
 
-// Whether an element with the compatibility octet c asks notice.
+// Whether an element with the compatibility octet c asks for notice.
 pub fn notice(c: u8, pass: bool) -> bool
     ensures { λ r. ⌜ r ≡ noticeOf pass c ⌝ }
 {
@@ -60,7 +60,7 @@ pub fn notice(c: u8, pass: bool) -> bool
     c / 64 % 2 == 1
 }
 
-// What is made of an unrecognised element.
+// The judgement of an unrecognised element.
 pub fn judge(identifier: u8, c: u8, index: usize, pass: bool) -> Judged
     ensures { λ r. ⌜ judgementIn r ≡ judgement pass identifier c index ⌝ }
 {

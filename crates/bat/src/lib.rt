@@ -1,6 +1,5 @@
-// Elements of Q.765.5, the bearer association transport (BAT): what the functions of this crate and of those above it take and answer, as
-// numbers, enums and spans by value. A span is a place in a slice that stands beside it: the octets
-// lent, or an element's contents.
+// Elements of Q.765.5, the bearer association transport (BAT): the types that this crate and those above it take and
+// answer, by value. A span is a place in a slice that is passed beside it: the data, or an element's contents.
 pub mod framing;
 pub mod judging;
 pub mod ranges;
@@ -16,7 +15,7 @@ pub enum Size {
     Missing,
 }
 
-// An element at the front of a slice. Behind its identifier stand `size` octets of length, the first
+// An element at the front of a slice. After its identifier come `size` octets of length, the first
 // compatibility octet, `extension` more of them, and `length` octets of contents.
 pub struct Frame {
     pub identifier: u8,
@@ -26,7 +25,7 @@ pub struct Frame {
     pub length: u16,
 }
 
-// What stands at the front of a slice.
+// What is at the front of a slice.
 pub enum Framed {
     Whole(Frame),
     Unframed,
@@ -39,19 +38,19 @@ pub enum Counted {
     Refused(u8),
 }
 
-// A single codec: its organisation, and the octets behind it.
+// A single codec: its organisation, and the octets after it.
 pub struct SingleCodec {
     pub organisation: u8,
     pub information: Span,
 }
 
-// The signal type inside a signal, with its own compatibility octet, of which bits 7 to 1 count.
+// The signal type inside a signal, with bits 7 to 1 of its own compatibility octet.
 pub struct InnerType {
     pub compatibility: u8,
     pub kind: u8,
 }
 
-// The duration inside a signal, with its own compatibility octet, of which bits 7 to 1 count.
+// The duration inside a signal, with bits 7 to 1 of its own compatibility octet.
 pub enum InnerDuration {
     Untimed,
     Lasting { compatibility: u8, duration: u16 },
@@ -64,20 +63,29 @@ pub enum Value {
     Address(Span),
     Codecs(Span),
     Single(SingleCodec),
-    Report { reason: u8, diagnostics: Span },
+    Report {
+        reason: u8,
+        diagnostics: Span,
+    },
     Characteristics(u8),
     Control(Span),
     Tunnelling(bool),
-    Unit { network: Span, local: Span },
-    Signal { kind: InnerType, duration: InnerDuration },
+    Unit {
+        network: Span,
+        local: Span,
+    },
+    Signal {
+        kind: InnerType,
+        duration: InnerDuration,
+    },
     Capability(bool),
     Indicators(Span),
     SignalType(u8),
     Duration(u16),
 }
 
-// Where an unrecognised element is at fault: itself, or first in the inner element whose identifier
-// stands at this place of its contents.
+// What is at fault in an unrecognised element: itself, or first the inner element whose identifier is at this
+// place of its contents.
 pub enum Place {
     Itself,
     Inner(usize),
@@ -97,34 +105,33 @@ pub enum Outcome {
     Release,
 }
 
-// What a compatibility report says of an element: its identifier, and the index of the fault.
+// What a compatibility report says about an element: its identifier, and the index of the fault.
 pub struct Diagnostic {
     pub identifier: u8,
     pub index: usize,
 }
 
-// What is made of an unrecognised element: its outcome, whether notice is asked, and its diagnostic.
+// The judgement of an unrecognised element: its outcome, whether it asks for notice, and its diagnostic.
 pub struct Judged {
     pub outcome: Outcome,
     pub notice: bool,
     pub diagnostic: Diagnostic,
 }
 
-// What is made of an element.
+// What is found of an element: its value, or the judgement of an unrecognised one.
 pub enum Finding {
     Recognised(Value),
     Unknown(Judged),
 }
 
-// What is made of application data as a whole.
+// The outcome of application data as a whole.
 pub enum DataOutcome {
     Neither,
     DiscardAll,
     ReleaseAll,
 }
 
-// The answer to application data: the number that refuses it, or how many elements it has and what
-// is made of it as a whole.
+// The answer to application data: the number that refuses it, or how many elements it has and their outcome.
 pub enum DataAnswer {
     Refused(u8),
     Taken { count: usize, outcome: DataOutcome },

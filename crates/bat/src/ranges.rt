@@ -35,7 +35,7 @@ fn is_itu_codec(s: &[u8]) -> bool
     s.len() == 1
 }
 
-// The organisation and the octets behind it are a single codec.
+// The organisation and the octets after it are a single codec.
 pub fn right_codec(organisation: u8, information: &[u8]) -> bool
     ensures { λ r. ⌜ r ≡ rightSingle (record { organisation = organisation; information = now (information .entry) }) ⌝ }
 {

@@ -14,21 +14,18 @@ use Rattle.octets.specs.declared.Span.{Span}
 use Rattle.bat.specs.declared.Frame.{Frame}
 use Rattle.bat.specs.declared.Framed.{Framed}
 use Rattle.bat.specs.declared.Framed.the-variants.{Whole, Unframed, Ended}
-use Rattle.bat.specs.declared.InnerType.{InnerType as TypePlace}
-use Rattle.bat.specs.declared.InnerDuration.the-variants.{Untimed, Lasting}
-use Rattle.bat.specs.declared.Value.the-variants.{Codecs as CodecsPlace, Signal}
+use Rattle.bat_read.specs.Code as code
 use Rattle.bat.specs.declared.Place.the-variants.{Itself, Inner}
-use Rattle.bat.specs.declared.Decoding.{Decoding as DecodingPlace}
-use Rattle.bat.specs.declared.Decoding.the-variants.{Decoded, Unrecognised}
 use Rattle.bat.specs.Framing.{octet, whole, front, onFront, walk}
 use Rattle.bat.specs.Values.{InnerCodec, codecs, signal, lasting, meant, decoded, unrecognised, Codecs, allCodecs, offence, withSingle, onCodecs, rightSingle, singleCodec, isSingle, innerCodec, codecThen, codecsIn, codecListIn, innerType, innerDuration, sixteenBits, rightType, isType, isDuration, lastBy, timedBy, signalBy, signalIn}
-use Rattle.bat.specs.Meaning.{wholeLength, elementIn, frontIn, WholeLength, innerTypeIn, innerDurationIn, valueInside, valueIn, valueBy, decodingIn}
+use Rattle.bat.specs.FramingMeaning.{wholeLength, elementIn, frontIn, WholeLength}
+use Rattle.bat.specs.ValueMeaning.{innerTypeIn, innerDurationIn, valueInside, valueIn, valueBy, decodingIn}
 use Rattle.bat.proofs.WalkLaws.{front-nil, walk-ended, walk-unframed, walk-first}
 use Rattle.bat.proofs.CountLaws.{frame-ended, frame-unframed, frame-is, frame-first, frame-length}
 use Rattle.bat_read.specs.declared.Offence.{Offence}
 use Rattle.bat_read.specs.declared.Offence.the-variants.{At, Nowhere}
 use Rattle.bat_read.specs.Examining.{offenceOf}
-use Rattle.bat_read.specs.Steps.{Stands}
+use Rattle.bat_read.specs.Private.{Stands}
 
 -- ---- the kind of an inner element, by its identifier i and a test of its contents
 module _ (s : List ℕ) (f : Frame) (i : ℕ) where
@@ -123,7 +120,7 @@ pub ruleset offences = (offence-end, offence-ended, offence-unframed, offence-he
 
 -- the whole list
 module _ (s : List ℕ) where
-  pub list-none : length s ≡ 0 → decodingIn s (Unrecognised Itself) ≡ some (codecListIn s)
+  pub list-none : length s ≡ 0 → decodingIn s (code.Unrecognised Itself) ≡ some (codecListIn s)
   unfolding decodingIn codecListIn
   list-none h = simp (eq-eqb (length s) 0 h)
 
@@ -132,7 +129,7 @@ module _ (s : List ℕ) where
     unfolding codecListIn
     list-by = simp (ne-eqb (length s) 0 full)
 
-    pub list-offence : (d : ℕ) → y ≡ At d → decodingIn s (Unrecognised (Inner d)) ≡ some (codecListIn s)
+    pub list-offence : (d : ℕ) → y ≡ At d → decodingIn s (code.Unrecognised (Inner d)) ≡ some (codecListIn s)
     unfolding decodingIn offenceOf onCodecs
     list-offence d e = go (codecsIn s) (sym is ∙ e) ∙ sym list-by
       where
@@ -140,7 +137,7 @@ module _ (s : List ℕ) where
         go (allCodecs cs) q = absurd (let z : _≡_ {A = ℕ} 0 1 = cc in omega arith)
         go (offence k) q = let z : k ≡ d = cc in rw z
 
-    pub list-codecs : (p : Span) → Stands s s p → y ≡ Nowhere → decodingIn s (Decoded (CodecsPlace p)) ≡ some (codecListIn s)
+    pub list-codecs : (p : Span) → Stands s s p → y ≡ Nowhere → decodingIn s (code.Decoded (code.Codecs p)) ≡ some (codecListIn s)
     unfolding decodingIn valueIn valueInside valueBy offenceOf onCodecs
     list-codecs p a e = rw (a .within, a .is) (go (codecsIn s) (sym is ∙ e)) ∙ sym list-by
       where
@@ -151,9 +148,9 @@ module _ (s : List ℕ) where
 pub ruleset lists = (list-none, list-offence, list-codecs)
 
 -- ---- 11
--- what stands behind the 14 and the 15, as f at the front of s, for every slice m that answers are read beside
-module _ (k : TypePlace) (d : ℕ) (s : List ℕ) (f : Frame) (b : Bool) (is : b ≡ isDuration (elementIn s f)) (m : List ℕ) where
-  pub last-no : b ≡ false → decodingIn m (Unrecognised (Inner d)) ≡ some (lastBy (innerTypeIn k) d (elementIn s f) (drop (wholeLength f) s))
+-- what comes after the 14, with f at the front of s; m is any slice, since the answer has no spans
+module _ (k : code.InnerType) (d : ℕ) (s : List ℕ) (f : Frame) (b : Bool) (is : b ≡ isDuration (elementIn s f)) (m : List ℕ) where
+  pub last-no : b ≡ false → decodingIn m (code.Unrecognised (Inner d)) ≡ some (lastBy (innerTypeIn k) d (elementIn s f) (drop (wholeLength f) s))
   unfolding decodingIn lastBy
   last-no h = let n : isDuration (elementIn s f) ≡ false = sym is ∙ h in rw n
 
@@ -165,14 +162,14 @@ module _ (k : TypePlace) (d : ℕ) (s : List ℕ) (f : Frame) (b : Bool) (is : b
     duration-is : isDuration (elementIn s f) ≡ true
     duration-is = sym is ∙ yes
 
-    pub last-more : w < length s → decodingIn m (Unrecognised (Inner (d + w))) ≡ some (lastBy (innerTypeIn k) d (elementIn s f) (drop (wholeLength f) s))
+    pub last-more : w < length s → decodingIn m (code.Unrecognised (Inner (d + w))) ≡ some (lastBy (innerTypeIn k) d (elementIn s f) (drop (wholeLength f) s))
     unfolding decodingIn lastBy
     last-more h =
         let n : length (drop (wholeLength f) s) ≡ 0 → ⊥ = λ e. omega (arith, length-drop (wholeLength f) s, l .is) in
         rw (duration-is, ne-eqb (length (drop (wholeLength f) s)) 0 n, ← frame-length s (Whole f) here f refl w l)
 
     pub last-whole : length s ≤ w → (c : List ℕ) → c ≡ elementIn s f .contents → (n : ℕ) → n ≡ sixteenBits c
-        → decodingIn m (Decoded (Signal k (Lasting (f .compatibility) n))) ≡ some (lastBy (innerTypeIn k) d (elementIn s f) (drop (wholeLength f) s))
+        → decodingIn m (code.Decoded (code.Signal k (code.Lasting (meant (f .compatibility)) n))) ≡ some (lastBy (innerTypeIn k) d (elementIn s f) (drop (wholeLength f) s))
     unfolding decodingIn valueIn valueInside valueBy innerDurationIn lastBy
     last-whole h c e n p =
         let z : length (drop (wholeLength f) s) ≡ 0 = omega (arith, length-drop (wholeLength f) s, l .is) in
@@ -181,34 +178,34 @@ module _ (k : TypePlace) (d : ℕ) (s : List ℕ) (f : Frame) (b : Bool) (is : b
 
 pub ruleset lasts = (last-no, last-more, last-whole)
 
--- behind the 14 stands s
-module _ (k : TypePlace) (d : ℕ) (s : List ℕ) (x : Framed) (is : frontIn s x ≡ some (front s)) (m : List ℕ) where
-  pub timed-ended : x ≡ Ended → decodingIn m (Decoded (Signal k Untimed)) ≡ some (timedBy (innerTypeIn k) d s)
+-- after the 14 comes s
+module _ (k : code.InnerType) (d : ℕ) (s : List ℕ) (x : Framed) (is : frontIn s x ≡ some (front s)) (m : List ℕ) where
+  pub timed-ended : x ≡ Ended → decodingIn m (code.Decoded (code.Signal k code.Untimed)) ≡ some (timedBy (innerTypeIn k) d s)
   unfolding decodingIn valueIn valueInside valueBy innerDurationIn timedBy onFront
   timed-ended e = rw (frame-ended s x is e)
 
-  pub timed-unframed : x ≡ Unframed → decodingIn m (Unrecognised (Inner d)) ≡ some (timedBy (innerTypeIn k) d s)
+  pub timed-unframed : x ≡ Unframed → decodingIn m (code.Unrecognised (Inner d)) ≡ some (timedBy (innerTypeIn k) d s)
   unfolding decodingIn timedBy onFront
   timed-unframed e = rw (frame-unframed s x is e)
 
-  pub timed-last : (f : Frame) → x ≡ Whole f → (r : DecodingPlace) → ((m : List ℕ) → decodingIn m r ≡ some (lastBy (innerTypeIn k) d (elementIn s f) (drop (wholeLength f) s)))
+  pub timed-last : (f : Frame) → x ≡ Whole f → (r : code.Decoding) → ((m : List ℕ) → decodingIn m r ≡ some (lastBy (innerTypeIn k) d (elementIn s f) (drop (wholeLength f) s)))
       → decodingIn m r ≡ some (timedBy (innerTypeIn k) d s)
   unfolding timedBy onFront
   timed-last f e r p = rw (frame-is s x is f e) (p m)
 
 -- the element f at the front of s is the 14, or should be
 module _ (s : List ℕ) (f : Frame) (b : Bool) (is : b ≡ isType (elementIn s f)) where
-  pub typed-no : b ≡ false → decodingIn s (Unrecognised (Inner 0)) ≡ some (signalBy (elementIn s f) (drop (wholeLength f) s))
+  pub typed-no : b ≡ false → decodingIn s (code.Unrecognised (Inner 0)) ≡ some (signalBy (elementIn s f) (drop (wholeLength f) s))
   unfolding decodingIn signalBy
   typed-no h = let n : isType (elementIn s f) ≡ false = sym is ∙ h in rw n
 
   kind-is : (n w : ℕ) (t : List ℕ) → n ≡ octet 0 (elementIn s f .contents)
-      → some (timedBy (innerTypeIn (record { compatibility = f .compatibility; kind = n })) w t) ≡ some (timedBy (innerType (elementIn s f)) w t)
+      → some (timedBy (innerTypeIn (record { compatibility = meant (f .compatibility); kind = n })) w t) ≡ some (timedBy (innerType (elementIn s f)) w t)
   unfolding elementIn
   kind-is n w t q = rw q
 
   pub typed-yes : b ≡ true → frontIn s (Whole f) ≡ some (front s) → (w : ℕ) → WholeLength f w → (c : List ℕ) → c ≡ elementIn s f .contents → (n : ℕ) → n ≡ octet 0 c
-      → (t : List ℕ) → t ≡ drop w s → (r : DecodingPlace) → ((m : List ℕ) → decodingIn m r ≡ some (timedBy (innerTypeIn (record { compatibility = f .compatibility; kind = n })) w t))
+      → (t : List ℕ) → t ≡ drop w s → (r : code.Decoding) → ((m : List ℕ) → decodingIn m r ≡ some (timedBy (innerTypeIn (record { compatibility = meant (f .compatibility); kind = n })) w t))
       → decodingIn s r ≡ some (signalBy (elementIn s f) (drop (wholeLength f) s))
   unfolding signalBy
   typed-yes h here w l c ci n ni t ti r p =
@@ -218,15 +215,15 @@ module _ (s : List ℕ) (f : Frame) (b : Bool) (is : b ≡ isType (elementIn s f
 
 -- the whole signal
 module _ (s : List ℕ) (x : Framed) (is : frontIn s x ≡ some (front s)) where
-  pub signal-ended : x ≡ Ended → decodingIn s (Unrecognised Itself) ≡ some (signalIn s)
+  pub signal-ended : x ≡ Ended → decodingIn s (code.Unrecognised Itself) ≡ some (signalIn s)
   unfolding decodingIn signalIn onFront
   signal-ended e = rw (frame-ended s x is e)
 
-  pub signal-unframed : x ≡ Unframed → decodingIn s (Unrecognised (Inner 0)) ≡ some (signalIn s)
+  pub signal-unframed : x ≡ Unframed → decodingIn s (code.Unrecognised (Inner 0)) ≡ some (signalIn s)
   unfolding decodingIn signalIn onFront
   signal-unframed e = rw (frame-unframed s x is e)
 
-  pub signal-typed : (f : Frame) → x ≡ Whole f → (r : DecodingPlace) → decodingIn s r ≡ some (signalBy (elementIn s f) (drop (wholeLength f) s)) → decodingIn s r ≡ some (signalIn s)
+  pub signal-typed : (f : Frame) → x ≡ Whole f → (r : code.Decoding) → decodingIn s r ≡ some (signalBy (elementIn s f) (drop (wholeLength f) s)) → decodingIn s r ≡ some (signalIn s)
   unfolding signalIn onFront
   signal-typed f e r p = rw (frame-is s x is f e) p
 

@@ -1,4 +1,4 @@
--- The inner element at fault stands inside the contents.
+-- The inner element at fault is inside the contents.
 -- Assumes nothing.
 use Prim.Native.Nat.{ℕ, suc, _+_, _≤_}
 use mathlib.Core.Path.{_≡_, refl, sym, ap, _∙_}

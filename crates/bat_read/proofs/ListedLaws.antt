@@ -1,4 +1,4 @@
--- The listed diagnostics of the data are found one after the other, each behind the element before it.
+-- The listed diagnostics of the data are found one after the other, each after the element before it.
 -- Assumes nothing.
 use Prim.Native.Nat.{ℕ, _+_, _≤_}
 use mathlib.Core.Path.{_≡_, refl, sym, ap, _∙_}
@@ -12,33 +12,31 @@ use Rattle.octets.proofs.CaseLaws.{by-bool}
 use Rattle.bat.specs.declared.Frame.{Frame}
 use Rattle.bat.specs.declared.Framed.the-variants.{Whole}
 use Rattle.bat.specs.declared.Judged.{Judged}
-use Rattle.bat.specs.declared.Diagnostic.{Diagnostic as DiagnosticPlace}
-use Rattle.bat.specs.declared.Value.{Value as ValuePlace}
-use Rattle.bat.specs.declared.Finding.{Finding as FindingPlace}
-use Rattle.bat.specs.declared.Finding.the-variants.{Recognised, Unknown}
+use Rattle.bat_read.specs.Code as code
 use Rattle.bat.specs.Framing.{Element, whole, front, first, unframed, ended, elements}
 use Rattle.bat.specs.Values.{Diagnostic, Value}
 use Rattle.bat.specs.Judging.{Finding, known, unknown, finding, isListed, listedWith, listed}
-use Rattle.bat.specs.Meaning.{elementIn, WholeLength, valueIn, diagnosticIn, judgementIn, findingIn}
+use Rattle.bat.specs.FramingMeaning.{elementIn, WholeLength}
+use Rattle.bat.specs.ValueMeaning.{valueIn}
+use Rattle.bat.specs.JudgingMeaning.{diagnosticIn, judgementIn, findingIn}
 use Rattle.bat.proofs.WalkLaws.{front-nil, walk-ended, walk-unframed, walk-first, by-front}
 use Rattle.bat.proofs.CountLaws.{frame-length}
 use Rattle.bat.proofs.DataLaws.{elements-ended, elements-unframed, elements-first}
 use Rattle.bat_read.specs.declared.Examined.{Examined}
-use Rattle.bat_read.specs.declared.Examined.the-variants.{Element as ElementAt, Unframed as NoFrame, Ended as NoMore}
 use Rattle.bat_read.specs.declared.Own.{Own}
 use Rattle.bat_read.specs.declared.Own.the-variants.{Lists, ListsNone}
 use Rattle.bat_read.specs.declared.Listed.the-variants.{Next, NoneLeft}
 use Rattle.bat_read.specs.Examining.{examine, examinedIn, Listing, listingWith, listings, listingsIn}
-use Rattle.bat_read.specs.Steps.{ownIn, ownOf}
+use Rattle.bat_read.specs.Private.{ownIn, ownOf}
 use Rattle.bat_read.proofs.OutcomeLaws.{seen, seen-front, seen-ended, seen-unframed}
 
 -- ---- what one element lists
-module _ (v : FindingPlace) (n : ℕ) (ls : List Listing) where
-  pub own-known : (w : ValuePlace) → v ≡ Recognised w → ownIn ListsNone n ls ≡ ownOf v n ls
+module _ (v : code.Finding) (n : ℕ) (ls : List Listing) where
+  pub own-known : (w : code.Value) → v ≡ code.Recognised w → ownIn ListsNone n ls ≡ ownOf v n ls
   unfolding ownIn ownOf
   own-known w e = rw e
 
-  module _ (j : Judged) (e : v ≡ Unknown j) (b : Bool) (is : b ≡ isListed (judgementIn j)) where
+  module _ (j : Judged) (e : v ≡ code.Unknown j) (b : Bool) (is : b ≡ isListed (judgementIn j)) where
     pub own-lists : b ≡ true → ownIn (Lists (j .diagnostic)) n ls ≡ ownOf v n ls
     unfolding ownIn ownOf
     own-lists h = let y : isListed (judgementIn j) ≡ true = sym is ∙ h in rw (e, y)
@@ -49,20 +47,20 @@ module _ (v : FindingPlace) (n : ℕ) (ls : List Listing) where
 
 pub ruleset owning = (own-known, own-lists, own-none)
 
--- the same of the verdict that it stands for
+-- the same for the finding that it stands for
 own-value : (o : Option Value) (w : Finding) (n : ℕ) (ls : List Listing) → Option·map known o ≡ some w → ls ≡ listingWith w n ls
 unfolding listingWith
 own-value none w n ls p = absurd (let z : _≡_ {A = ℕ} 0 1 = cc in omega arith)
 own-value (some v) w n ls p = let q : known v ≡ w = cc in rw (← q)
 
-own-judged : (j : Judged) (n : ℕ) (ls : List Listing) → cond (isListed (judgementIn j)) (record { diagnostic = diagnosticIn (j .diagnostic); behind = n } ∷ ls) ls ≡ listingWith (unknown (judgementIn j)) n ls
+own-judged : (j : Judged) (n : ℕ) (ls : List Listing) → cond (isListed (judgementIn j)) (record { diagnostic = diagnosticIn (j .diagnostic); next = n } ∷ ls) ls ≡ listingWith (unknown (judgementIn j)) n ls
 unfolding listingWith judgementIn
 own-judged j n ls = refl
 
-own-is : (s : List ℕ) (v : FindingPlace) (w : Finding) (n : ℕ) (ls : List Listing) → findingIn s v ≡ some w → ownOf v n ls ≡ listingWith w n ls
+own-is : (s : List ℕ) (v : code.Finding) (w : Finding) (n : ℕ) (ls : List Listing) → findingIn s v ≡ some w → ownOf v n ls ≡ listingWith w n ls
 unfolding findingIn ownOf
-own-is s (Recognised x) w n ls p = own-value (valueIn s x) w n ls p
-own-is s (Unknown j) w n ls p = let q : unknown (judgementIn j) ≡ w = cc in rw (← q) (own-judged j n ls)
+own-is s (code.Recognised x) w n ls p = own-value (valueIn s x) w n ls p
+own-is s (code.Unknown j) w n ls p = let q : unknown (judgementIn j) ≡ w = cc in rw (← q) (own-judged j n ls)
 
 -- ---- from one element of the data to the next
 module _ (pass : Bool) where
@@ -91,15 +89,15 @@ module _ (pass : Bool) where
       here-is : listings pass at t ≡ y
       here-is = rw (← here) at inv
 
-      pub list-ended : x ≡ NoMore → listingsIn pass s NoneLeft ≡ y
+      pub list-ended : x ≡ code.Ended → listingsIn pass s NoneLeft ≡ y
       unfolding listingsIn
       list-ended e = sym (listings-ended at t (seen-ended pass t x is e)) ∙ here-is
 
-      pub list-unframed : x ≡ NoFrame → listingsIn pass s NoneLeft ≡ y
+      pub list-unframed : x ≡ code.Unframed → listingsIn pass s NoneLeft ≡ y
       unfolding listingsIn
       list-unframed e = sym (listings-unframed at t (seen-unframed pass t x is e)) ∙ here-is
 
-      module _ (f : Frame) (v : FindingPlace) (e : x ≡ ElementAt f v) (w : ℕ) (l : WholeLength f w) (o : Own) (own : (n : ℕ) (ls : List Listing) → ownIn o n ls ≡ ownOf v n ls) where
+      module _ (f : Frame) (v : code.Finding) (e : x ≡ code.Element f v) (w : ℕ) (l : WholeLength f w) (o : Own) (own : (n : ℕ) (ls : List Listing) → ownIn o n ls ≡ ownOf v n ls) where
         list-with : ownIn o (at + w) (listings pass (at + w) (drop (at + w) s)) ≡ y
         list-with =
             let k = seen pass t x is f v e in
@@ -110,7 +108,7 @@ module _ (pass : Bool) where
             rw (← drop-drop w at s, ← here)
             (own (at + w) rest ∙ own-is (elementIn t f .contents) v (finding pass (elementIn t f)) (at + w) rest (k .2) ∙ sym one ∙ here-is)
 
-        pub list-next : (d : DiagnosticPlace) → o ≡ Lists d → listingsIn pass s (Next d (at + w)) ≡ y
+        pub list-next : (d : code.Diagnostic) → o ≡ Lists d → listingsIn pass s (Next d (at + w)) ≡ y
         unfolding listingsIn ownIn
         list-next d q = rw q at list-with
 

@@ -1,4 +1,4 @@
--- The data's outcome is the gravest that its elements ask, taken from one element to the next.
+-- The data's outcome is the gravest that its elements ask for, taken from one element to the next.
 -- Assumes nothing.
 use Prim.Native.Nat.{ℕ, _+_, _-_, _^_, _≤_, _<_, max}
 use mathlib.Core.Path.{_≡_, refl, sym, _∙_}
@@ -18,30 +18,29 @@ use Rattle.bat.specs.declared.Counted.{Counted}
 use Rattle.bat.specs.declared.Counted.the-variants.{Elements, Refused}
 use Rattle.bat.specs.declared.Outcome.the-variants.{PassOn, DiscardElement, DiscardData, Release}
 use Rattle.bat.specs.declared.Judged.{Judged}
-use Rattle.bat.specs.declared.Value.{Value as ValuePlace}
-use Rattle.bat.specs.declared.Finding.{Finding as FindingPlace}
-use Rattle.bat.specs.declared.Finding.the-variants.{Recognised, Unknown}
+use Rattle.bat_read.specs.Code as code
 use Rattle.bat.specs.declared.DataOutcome.{DataOutcome}
 use Rattle.bat.specs.declared.DataOutcome.the-variants.{Neither, DiscardAll, ReleaseAll}
-use Rattle.bat.specs.declared.DataAnswer.the-variants.{Refused as RefusedData, Taken}
+use Rattle.bat.specs.declared.DataAnswer.the-variants as answer
 use Rattle.bat.specs.Framing.{Element, Front, front, first, unframed, ended, onFront, elements, Cut, refused, taken, cut}
 use Rattle.bat.specs.Values.{Value}
 use Rattle.bat.specs.Judging.{Finding, known, unknown, finding, says, someSays, dataOutcome, judgedBy, judgedData}
-use Rattle.bat.specs.Meaning.{wholeLength, elementIn, frontIn, WholeLength, valueIn, outcomeNumber, judgementIn, findingIn, dataNumber, toldBy, toldOf, countOf}
+use Rattle.bat.specs.FramingMeaning.{wholeLength, elementIn, frontIn, WholeLength, countOf}
+use Rattle.bat.specs.ValueMeaning.{valueIn}
+use Rattle.bat.specs.JudgingMeaning.{outcomeNumber, judgementIn, findingIn, dataNumber, toldBy, toldOf}
 use Rattle.bat.proofs.WalkLaws.{front-nil, fold-ended, fold-unframed, fold-first, by-front}
 use Rattle.bat.proofs.DataLaws.{elements-ended, elements-unframed, elements-first, taken-is}
 use Rattle.bat.proofs.CountLaws.{place-fits, place-falls}
 use Rattle.bat_read.specs.declared.Examined.{Examined}
-use Rattle.bat_read.specs.declared.Examined.the-variants.{Element as ElementAt, Unframed as NoFrame, Ended as NoMore}
 use Rattle.bat_read.specs.Examining.{element, noFrame, noMore, examine, examinedIn}
-use Rattle.bat_read.specs.Steps.{dataAsked, dataAskedIn, dataAskedBy, gravest}
+use Rattle.bat_read.specs.Private.{dataAsked, dataAskedIn, dataAskedBy, gravest}
 
 -- ---- what one element asks
-pub asks-known : (v : FindingPlace) (w : ValuePlace) → v ≡ Recognised w → dataNumber Neither ≡ dataAskedIn v
+pub asks-known : (v : code.Finding) (w : code.Value) → v ≡ code.Recognised w → dataNumber Neither ≡ dataAskedIn v
 unfolding dataNumber dataAskedIn
 asks-known v w e = rw e
 
-module _ (v : FindingPlace) (j : Judged) (e : v ≡ Unknown j) where
+module _ (v : code.Finding) (j : Judged) (e : v ≡ code.Unknown j) where
   pub asks-pass : j .outcome ≡ PassOn → dataNumber Neither ≡ dataAskedIn v
   unfolding dataNumber dataAskedIn outcomeNumber
   asks-pass o = rw (e, o)
@@ -60,7 +59,7 @@ module _ (v : FindingPlace) (j : Judged) (e : v ≡ Unknown j) where
 
 pub ruleset asking = (asks-known, asks-pass, asks-element, asks-data, asks-release)
 
--- the same of the verdict that it stands for
+-- the same for the finding that it stands for
 known-asks : (o : Option Value) (w : Finding) → Option·map known o ≡ some w → 0 ≡ dataAskedBy w
 unfolding dataAskedBy
 known-asks none w p = absurd (let z : _≡_ {A = ℕ} 0 1 = cc in omega arith)
@@ -70,10 +69,10 @@ unknown-asks : (j : Judged) → dataAsked (outcomeNumber (j .outcome)) ≡ dataA
 unfolding dataAskedBy judgementIn
 unknown-asks j = refl
 
-asked-is : (s : List ℕ) (v : FindingPlace) (w : Finding) → findingIn s v ≡ some w → dataAskedIn v ≡ dataAskedBy w
+asked-is : (s : List ℕ) (v : code.Finding) (w : Finding) → findingIn s v ≡ some w → dataAskedIn v ≡ dataAskedBy w
 unfolding findingIn dataAskedIn
-asked-is s (Recognised x) w p = known-asks (valueIn s x) w p
-asked-is s (Unknown j) w p = let q : unknown (judgementIn j) ≡ w = cc in rw (← q) (unknown-asks j)
+asked-is s (code.Recognised x) w p = known-asks (valueIn s x) w p
+asked-is s (code.Unknown j) w p = let q : unknown (judgementIn j) ≡ w = cc in rw (← q) (unknown-asks j)
 
 -- ---- the graver of two
 most : (a : DataOutcome) → dataNumber a ≤ 3
@@ -183,7 +182,7 @@ module _ (pass : Bool) where
   on-ended unframed p = absurd (let z : _≡_ {A = ℕ} 0 1 = cc in omega arith)
   on-ended ended p = refl
 
-  seen-by : (t : List ℕ) (f : Frame) (v : FindingPlace) (o : Option Finding) → findingIn (elementIn t f .contents) v ≡ o
+  seen-by : (t : List ℕ) (f : Frame) (v : code.Finding) (o : Option Finding) → findingIn (elementIn t f .contents) v ≡ o
       → Option·map (λ (w : Finding). element (elementIn t f) w (drop (wholeLength f) t)) o ≡ some (examine pass t)
       → (front t ≡ first (elementIn t f) (drop (wholeLength f) t)) × (findingIn (elementIn t f .contents) v ≡ some (finding pass (elementIn t f)))
   unfolding examine
@@ -194,15 +193,15 @@ module _ (pass : Bool) where
       (g, q ∙ rw h)
 
   module _ (t : List ℕ) (x : Examined) (is : examinedIn t x ≡ some (examine pass t)) where
-    pub seen-ended : x ≡ NoMore → front t ≡ ended
+    pub seen-ended : x ≡ code.Ended → front t ≡ ended
     unfolding examinedIn examine
     seen-ended e = let p : some noMore ≡ some (examine pass t) = rw e at is in on-ended (front t) (cc)
 
-    pub seen-unframed : x ≡ NoFrame → front t ≡ unframed
+    pub seen-unframed : x ≡ code.Unframed → front t ≡ unframed
     unfolding examinedIn examine
     seen-unframed e = let p : some noFrame ≡ some (examine pass t) = rw e at is in on-unframed (front t) (cc)
 
-    module _ (f : Frame) (v : FindingPlace) (e : x ≡ ElementAt f v) where
+    module _ (f : Frame) (v : code.Finding) (e : x ≡ code.Element f v) where
       pub seen : (wholeLength f ≤ length t) × (front t ≡ first (elementIn t f) (drop (wholeLength f) t)) × (findingIn (elementIn t f .contents) v ≡ some (finding pass (elementIn t f)))
       unfolding examinedIn
       seen =
@@ -216,7 +215,7 @@ module _ (pass : Bool) where
       seen-front = rw (le-leb (wholeLength f) (length t) (seen .0), seen .1)
 
   -- ---- from one element of the data to the next
-  module _ (s : List ℕ) (at : ℕ) (t : List ℕ) (here : t ≡ drop at s) (x : Examined) (is : examinedIn t x ≡ some (examine pass t)) (f : Frame) (v : FindingPlace) (e : x ≡ ElementAt f v) (w : ℕ) (l : WholeLength f w) where
+  module _ (s : List ℕ) (at : ℕ) (t : List ℕ) (here : t ≡ drop at s) (x : Examined) (is : examinedIn t x ≡ some (examine pass t)) (f : Frame) (v : code.Finding) (e : x ≡ code.Element f v) (w : ℕ) (l : WholeLength f w) where
     pub seen-fits : at < length s → length s < 2 ^ 64 → Fits w64 (at + w)
     seen-fits h k = place-fits s at t here (Whole f) (seen-front t x is f v e) f refl w l h k
 
@@ -234,13 +233,13 @@ module _ (pass : Bool) where
       here-is : max n (gravest pass t) ≡ y
       here-is = rw (← here) at inv
 
-      pub outcome-ended : x ≡ NoMore → n ≡ y
+      pub outcome-ended : x ≡ code.Ended → n ≡ y
       outcome-ended e = omega (arith, here-is, gravest-ended pass t (seen-ended t x is e))
 
-      pub outcome-unframed : x ≡ NoFrame → n ≡ y
+      pub outcome-unframed : x ≡ code.Unframed → n ≡ y
       outcome-unframed e = omega (arith, here-is, gravest-unframed pass t (seen-unframed t x is e))
 
-      module _ (f : Frame) (v : FindingPlace) (e : x ≡ ElementAt f v) (w : ℕ) (l : WholeLength f w) where
+      module _ (f : Frame) (v : code.Finding) (e : x ≡ code.Element f v) (w : ℕ) (l : WholeLength f w) where
         pub outcome-more : (a m : ℕ) → a ≡ dataAskedIn v → m ≡ max n a → max m (gravest pass (drop (at + w) s)) ≡ y
         outcome-more a m k q =
             let next : front t ≡ first (elementIn t f) (drop w t) = seen t x is f v e .1 ∙ rw (l .is) in
@@ -256,19 +255,19 @@ module _ (s : List ℕ) (entries : ℕ) (pass : Bool) (y : Counted) (is : y ≡ 
   unfolding judgedData
   told-by x e = rw e
 
-  pub told-refused : (n : ℕ) → y ≡ Refused n → toldBy (RefusedData n) ≡ toldOf (judgedData pass entries s)
+  pub told-refused : (n : ℕ) → y ≡ Refused n → toldBy (answer.Refused n) ≡ toldOf (judgedData pass entries s)
   unfolding toldBy toldOf judgedBy countOf
   told-refused n e = go (cut entries s) refl
     where
-      go : (x : Cut) → cut entries s ≡ x → toldBy (RefusedData n) ≡ toldOf (judgedData pass entries s)
+      go : (x : Cut) → cut entries s ≡ x → toldBy (answer.Refused n) ≡ toldOf (judgedData pass entries s)
       go (refused m) q = let k : y ≡ Refused m = rw q at is in let z : n ≡ m = cc in rw z (sym (told-by (refused m) q))
       go (taken es) q = let k : y ≡ Elements (length es) = rw q at is in absurd (let z : _≡_ {A = ℕ} 0 1 = cc in omega arith)
 
-  pub told-taken : (n : ℕ) (o : DataOutcome) → y ≡ Elements n → dataNumber o ≡ gravest pass s → toldBy (Taken n o) ≡ toldOf (judgedData pass entries s)
+  pub told-taken : (n : ℕ) (o : DataOutcome) → y ≡ Elements n → dataNumber o ≡ gravest pass s → toldBy (answer.Taken n o) ≡ toldOf (judgedData pass entries s)
   unfolding toldBy toldOf judgedBy countOf
   told-taken n o e g = go (cut entries s) refl
     where
-      go : (x : Cut) → cut entries s ≡ x → toldBy (Taken n o) ≡ toldOf (judgedData pass entries s)
+      go : (x : Cut) → cut entries s ≡ x → toldBy (answer.Taken n o) ≡ toldOf (judgedData pass entries s)
       go (refused m) q = let k : y ≡ Refused m = rw q at is in absurd (let z : _≡_ {A = ℕ} 0 1 = cc in omega arith)
       go (taken es) q =
           let k : y ≡ Elements (length es) = rw q at is in

@@ -8,7 +8,7 @@ use borrow.Author.Tests.{ne-eqb}
 use Rattle.bat.specs.declared.Place.the-variants.{Itself}
 use Rattle.bat.specs.declared.Decoding.the-variants.{Unrecognised}
 use Rattle.bat.specs.Values.{Decoding, actionIn, backboneIn, addressIn, codecListIn, singleIn, reportIn, characteristicsIn, controlIn, tunnellingIn, unitIn, signalIn, capabilityIn, indicatorsIn, typeIn, durationIn, decoding}
-use Rattle.bat.specs.Meaning.{decodingIn}
+use Rattle.bat.specs.ValueMeaning.{decodingIn}
 
 module _ (i : ℕ) (s : List ℕ) where
   pub reading-action : (x : Option Decoding) → i ≡ 1 → x ≡ some (actionIn s) → x ≡ some (decoding i s)

@@ -16,21 +16,21 @@ use Rattle.bat.specs.declared.Place.the-variants.{Itself}
 use Rattle.bat.specs.declared.Decoding.the-variants.{Decoded, Unrecognised}
 use Rattle.bat.specs.Framing.{octet, unmarked}
 use Rattle.bat.specs.Values.{Diagnostic, report, decoded, wrong, bit1, diagnosticsIn, reportIn, unitIn, capabilityIn}
-use Rattle.bat.specs.Meaning.{valueInside, valueIn, valueBy, decodingIn}
-use Rattle.bat_read.specs.Steps.{Stands}
+use Rattle.bat.specs.ValueMeaning.{valueInside, valueIn, valueBy, decodingIn}
+use Rattle.bat_read.specs.Private.{Stands}
 
 -- ---- spans
 pub stands-all : (s : List ℕ) (n : ℕ) → n ≡ length s → Stands s s (record { at = 0; len = n })
 stands-all s n e = record { is = text-all s n e; within = le-leb (0 + n) (length s) (omega arith) }
 
 module _ (s : List ℕ) (n : ℕ) where
-  pub behind-none : length s < n → Stands s (drop n s) (record { at = 0; len = 0 })
+  pub rest-none : length s < n → Stands s (drop n s) (record { at = 0; len = 0 })
   unfolding textOf
-  behind-none h = record { is = sym (drop-of-length-le s {i = n} (omega arith)); within = le-leb (0 + 0) (length s) (omega arith) }
+  rest-none h = record { is = sym (drop-of-length-le s {i = n} (omega arith)); within = le-leb (0 + 0) (length s) (omega arith) }
 
-  pub behind-some : n ≤ length s → Stands s (drop n s) (record { at = n; len = length s - n })
+  pub rest-some : n ≤ length s → Stands s (drop n s) (record { at = n; len = length s - n })
   unfolding textOf
-  behind-some h = record { is = tail-is s n; within = le-leb (n + (length s - n)) (length s) (omega arith) }
+  rest-some h = record { is = tail-is s n; within = le-leb (n + (length s - n)) (length s) (omega arith) }
 
 -- ---- diagnostics are there exactly where the octets come in threes
 diagnostics-odd : (s : List ℕ) → (length s % 3 ≡ 0 → ⊥) → diagnosticsIn s ≡ none
@@ -106,7 +106,7 @@ module _ (s : List ℕ) where
     unfolding decodingIn valueIn valueInside valueBy capabilityIn
     capability-yes h = simp (eq-eqb (suc (unmarked s)) (length s) (omega arith))
 
-pub ruleset behinds = (behind-none, behind-some)
+pub ruleset rests = (rest-none, rest-some)
 
 pub ruleset reports = (report-none, report-odd, report-whole)
 

@@ -1,5 +1,5 @@
--- Gone through one at a time by `examine_first`, data has just the elements that it is cut into: the first of them stands
--- at the front, and the others are those of what is behind it.
+-- Gone through one at a time by `examine_first`, data has just the elements that it is cut into: the first of them is
+-- at the front, and the others are those of what follows it.
 -- Assumes nothing.
 use Prim.Native.Nat.{ℕ}
 use mathlib.Core.Path.{_≡_, refl, sym, _∙_}

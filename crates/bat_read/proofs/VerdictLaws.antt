@@ -1,4 +1,4 @@
--- What is made of an element follows from how its contents are read, and an answer to the front of octets from that.
+-- What is found of an element follows from how its contents are decoded, and the answer to the front of octets from that.
 -- Assumes nothing.
 use Prim.Native.Nat.{ℕ, _+_, _≤_}
 use mathlib.Core.Path.{_≡_, refl, sym, ap, _∙_}
@@ -15,30 +15,27 @@ use Rattle.bat.specs.declared.Framed.{Framed}
 use Rattle.bat.specs.declared.Framed.the-variants.{Whole, Unframed, Ended}
 use Rattle.bat.specs.declared.Place.{Place}
 use Rattle.bat.specs.declared.Place.the-variants.{Itself, Inner}
-use Rattle.bat.specs.declared.Value.{Value as ValuePlace}
-use Rattle.bat.specs.declared.Decoding.{Decoding as DecodingPlace}
-use Rattle.bat.specs.declared.Decoding.the-variants.{Decoded, Unrecognised}
+use Rattle.bat_read.specs.Code as code
 use Rattle.bat.specs.declared.Judged.{Judged}
-use Rattle.bat.specs.declared.Finding.{Finding as FindingPlace}
-use Rattle.bat.specs.declared.Finding.the-variants.{Recognised, Unknown}
 use Rattle.bat.specs.Framing.{header, front, first, onFront}
 use Rattle.bat.specs.Values.{Value, Decoding, decoded, unrecognised, decoding}
 use Rattle.bat.specs.Judging.{indexBy, judgement, known, unknown, findingBy, finding}
-use Rattle.bat.specs.Meaning.{headerLength, wholeLength, elementIn, frontIn, HeaderLength, valueIn, decodingIn, judgementIn, findingIn}
+use Rattle.bat.specs.FramingMeaning.{headerLength, wholeLength, elementIn, frontIn, HeaderLength}
+use Rattle.bat.specs.ValueMeaning.{valueIn, decodingIn}
+use Rattle.bat.specs.JudgingMeaning.{judgementIn, findingIn}
 use Rattle.bat.proofs.WalkLaws.{front-size, size-small}
 use Rattle.bat.proofs.CountLaws.{frame-is, frame-fits, frame-ended, frame-unframed}
-use Rattle.bat_read.specs.declared.Examined.the-variants.{Element as ElementAt, Unframed as NoFrame, Ended as NoMore}
 use Rattle.bat_read.specs.Examining.{examine, examinedIn}
-use Rattle.bat_read.specs.Steps.{indexIn}
+use Rattle.bat_read.specs.Private.{indexIn}
 use Rattle.bat_read.proofs.InnerLaws.{innerOf, inner-inside}
 
 -- ---- the index
-module _ (x : DecodingPlace) (n : ℕ) where
-  pub index-decoded : (v : ValuePlace) → x ≡ Decoded v → 0 ≡ indexIn n x
+module _ (x : code.Decoding) (n : ℕ) where
+  pub index-decoded : (v : code.Value) → x ≡ code.Decoded v → 0 ≡ indexIn n x
   unfolding indexIn
   index-decoded v e = rw e
 
-  module _ (p : Place) (e : x ≡ Unrecognised p) where
+  module _ (p : Place) (e : x ≡ code.Unrecognised p) where
     pub index-itself : p ≡ Itself → 0 ≡ indexIn n x
     unfolding indexIn indexBy
     index-itself q = rw (e, q)
@@ -58,7 +55,7 @@ unfolding elementIn
 same-judgement s f pass n = refl
 
 -- the answer x to the contents c of the element f at the front of s
-module _ (s : List ℕ) (f : Frame) (here : frontIn s (Whole f) ≡ some (front s)) (c : List ℕ) (is : c ≡ elementIn s f .contents) (x : DecodingPlace) (read : decodingIn c x ≡ some (decoding (f .identifier) c)) where
+module _ (s : List ℕ) (f : Frame) (here : frontIn s (Whole f) ≡ some (front s)) (c : List ℕ) (is : c ≡ elementIn s f .contents) (x : code.Decoding) (read : decodingIn c x ≡ some (decoding (f .identifier) c)) where
   inside : wholeLength f ≤ length s
   inside = frame-fits s (Whole f) here f refl
 
@@ -74,14 +71,14 @@ module _ (s : List ℕ) (f : Frame) (here : frontIn s (Whole f) ≡ some (front 
   unfolding header elementIn
   head-is = simp (length-append, length-take, length-drop) (omega (arith, inside))
 
-  read-is : (y : DecodingPlace) → x ≡ y → decodingIn c y ≡ some (decoding (f .identifier) c)
+  read-is : (y : code.Decoding) → x ≡ y → decodingIn c y ≡ some (decoding (f .identifier) c)
   read-is y e = rw e at read
 
-  index-at : (n : ℕ) → HeaderLength f n → (y : DecodingPlace) → decodingIn c y ≡ some (decoding (f .identifier) c) → indexIn n y ≤ 131327
+  index-at : (n : ℕ) → HeaderLength f n → (y : code.Decoding) → decodingIn c y ≡ some (decoding (f .identifier) c) → indexIn n y ≤ 131327
   unfolding indexIn indexBy decodingIn innerOf
-  index-at n h (Decoded v) p = omega arith
-  index-at n h (Unrecognised Itself) p = omega arith
-  index-at n h (Unrecognised (Inner d)) p =
+  index-at n h (code.Decoded v) p = omega arith
+  index-at n h (code.Unrecognised Itself) p = omega arith
+  index-at n h (code.Unrecognised (Inner d)) p =
       let q : unrecognised (Inner d) ≡ decoding (f .identifier) c = cc in
       omega (arith, small, h .few, rw (← q) at (inner-inside (f .identifier) c))
 
@@ -103,19 +100,19 @@ module _ (s : List ℕ) (f : Frame) (here : frontIn s (Whole f) ≡ some (front 
       let q : decoding (f .identifier) c ≡ decoded v = cc in
       rw (verdict-of pass (decoded v) q)
 
-  pub verdict-known : (v : ValuePlace) → x ≡ Decoded v → (pass : Bool) → findingIn (elementIn s f .contents) (Recognised v) ≡ some (finding pass (elementIn s f))
+  pub verdict-known : (v : code.Value) → x ≡ code.Decoded v → (pass : Bool) → findingIn (elementIn s f .contents) (code.Recognised v) ≡ some (finding pass (elementIn s f))
   unfolding findingIn decodingIn
-  verdict-known v e pass = ap (λ (l : List ℕ). Option·map known (valueIn l v)) (sym is) ∙ known-by (valueIn c v) pass (read-is (Decoded v) e)
+  verdict-known v e pass = ap (λ (l : List ℕ). Option·map known (valueIn l v)) (sym is) ∙ known-by (valueIn c v) pass (read-is (code.Decoded v) e)
 
   judgement-is : (pass : Bool) (p : Place) → findingBy pass (elementIn s f) (unrecognised p) ≡ unknown (judgement pass (f .identifier) (f .compatibility) (indexBy (headerLength f) p))
   unfolding findingBy
   judgement-is pass p = rw head-is (same-judgement s f pass (indexBy (headerLength f) p))
 
-  pub verdict-unknown : (p : Place) → x ≡ Unrecognised p → (n i : ℕ) → HeaderLength f n → i ≡ indexIn n x → (pass : Bool) (j : Judged) → judgementIn j ≡ judgement pass (f .identifier) (f .compatibility) i
-      → findingIn (elementIn s f .contents) (Unknown j) ≡ some (finding pass (elementIn s f))
+  pub verdict-unknown : (p : Place) → x ≡ code.Unrecognised p → (n i : ℕ) → HeaderLength f n → i ≡ indexIn n x → (pass : Bool) (j : Judged) → judgementIn j ≡ judgement pass (f .identifier) (f .compatibility) i
+      → findingIn (elementIn s f .contents) (code.Unknown j) ≡ some (finding pass (elementIn s f))
   unfolding findingIn decodingIn indexIn
   verdict-unknown p e n i h k pass j g =
-      let q : decoding (f .identifier) c ≡ unrecognised p = (let z : some (unrecognised p) ≡ some (decoding (f .identifier) c) = read-is (Unrecognised p) e in cc) in
+      let q : decoding (f .identifier) c ≡ unrecognised p = (let z : some (unrecognised p) ≡ some (decoding (f .identifier) c) = read-is (code.Unrecognised p) e in cc) in
       let l : i ≡ indexBy (headerLength f) p = k ∙ rw (e, h .is) in
       rw (verdict-of pass (unrecognised p) q, judgement-is pass p, g, l)
 
@@ -123,15 +120,15 @@ pub ruleset verdicts = (verdict-known, verdict-unknown)
 
 -- ---- the front, examined
 module _ (s : List ℕ) (pass : Bool) (x : Framed) (is : frontIn s x ≡ some (front s)) where
-  pub examined-ended : x ≡ Ended → examinedIn s NoMore ≡ some (examine pass s)
+  pub examined-ended : x ≡ Ended → examinedIn s code.Ended ≡ some (examine pass s)
   unfolding examinedIn examine onFront
   examined-ended e = rw (frame-ended s x is e)
 
-  pub examined-unframed : x ≡ Unframed → examinedIn s NoFrame ≡ some (examine pass s)
+  pub examined-unframed : x ≡ Unframed → examinedIn s code.Unframed ≡ some (examine pass s)
   unfolding examinedIn examine onFront
   examined-unframed e = rw (frame-unframed s x is e)
 
-  pub examined-element : (f : Frame) → x ≡ Whole f → (v : FindingPlace) → findingIn (elementIn s f .contents) v ≡ some (finding pass (elementIn s f)) → examinedIn s (ElementAt f v) ≡ some (examine pass s)
+  pub examined-element : (f : Frame) → x ≡ Whole f → (v : code.Finding) → findingIn (elementIn s f .contents) v ≡ some (finding pass (elementIn s f)) → examinedIn s (code.Element f v) ≡ some (examine pass s)
   unfolding examinedIn examine onFront
   examined-element f e v p = rw (le-leb (wholeLength f) (length s) (frame-fits s x is f e), frame-is s x is f e, p)
 

@@ -1,3 +1,4 @@
--- Definitions that the contracts of this crate cite.
+-- The definitions that the contracts of this crate cite. `Private` is used only by private functions.
+pub mod Code
 pub mod Examining
-pub mod Steps
+pub mod Private

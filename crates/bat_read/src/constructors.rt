@@ -1,4 +1,4 @@
-// The contents of a constructor: elements one behind the other.
+// The contents of a constructor: one element after the other.
 ghost use mathlib.Core.Path.{_≡_};
 ghost use mathlib.Core.Option.{some};
 ghost use mathlib.Core.List.{List};
@@ -7,15 +7,16 @@ ghost use lib.ListN.{drop};
 ghost use Rattle.bat.specs.declared.Framed.the-variants.{Whole};
 ghost use Rattle.bat.specs.Framing.{front};
 ghost use Rattle.bat.specs.Values.{codecsIn, codecListIn, isSingle, isType, isDuration, lastBy, timedBy, signalBy, signalIn};
-ghost use Rattle.bat.specs.Meaning.{wholeLength, elementIn, frontIn, innerTypeIn, decodingIn};
+ghost use Rattle.bat.specs.FramingMeaning.{wholeLength, elementIn, frontIn};
+ghost use Rattle.bat.specs.ValueMeaning.{innerTypeIn, decodingIn};
 ghost use Rattle.bat_read.specs.Examining.{offenceOf};
 use crate::Offence;
+use bat::Decoding;
 use bat::Frame;
 use bat::Framed;
-use bat::Place;
-use bat::Decoding;
 use bat::InnerDuration;
 use bat::InnerType;
+use bat::Place;
 use bat::Value;
 use octets::Span;
 
@@ -29,7 +30,7 @@ fn is_single(s: &[u8], f: Frame) -> bool
     bat::ranges::is_codec(bat::framing::contents(s, f))
 }
 
-// Where the first element of s stands that is no single codec, octets that make no element included.
+// Where the first element of s is that is no single codec; octets that can't be framed count as one.
 pub fn find_offence(s: &[u8]) -> Offence
     ensures { λ r. ⌜ r ≡ offenceOf (codecsIn (now (s .entry))) ⌝ }
 {
@@ -93,7 +94,7 @@ fn is_duration(s: &[u8], f: Frame) -> bool
     bat::framing::contents(s, f).len() == 2
 }
 
-// Behind the signal type, which has d octets, the element f stands at the front of s.
+// After the signal type, which has d octets, comes s, with the element f at its front.
 fn last(kind: InnerType, d: usize, s: &[u8], f: Frame) -> Decoding
     requires { ⌜ frontIn (now s) (Whole f) ≡ some (front (now s)) ⌝ }
     requires { ⌜ d ≤ 131327 ⌝ }
@@ -107,7 +108,7 @@ fn last(kind: InnerType, d: usize, s: &[u8], f: Frame) -> Decoding
         return Decoding::Decoded(Value::Signal {
             kind: kind,
             duration: InnerDuration::Lasting {
-                compatibility: f.compatibility,
+                compatibility: f.compatibility % 128,
                 duration: bat::ranges::word(bat::framing::contents(s, f)),
             },
         });
@@ -115,7 +116,7 @@ fn last(kind: InnerType, d: usize, s: &[u8], f: Frame) -> Decoding
     Decoding::Unrecognised(Place::Inner(d))
 }
 
-// Behind the signal type, which has d octets, stands s.
+// After the signal type, which has d octets, comes s.
 fn timed(kind: InnerType, d: usize, s: &[u8]) -> Decoding
     requires { ⌜ d ≤ 131327 ⌝ }
     ensures { λ r. ⌜ ((m : List ℕ) → decodingIn m r ≡ some (timedBy (innerTypeIn kind) d (now (s .entry)))) ⌝ }
@@ -131,7 +132,7 @@ fn timed(kind: InnerType, d: usize, s: &[u8]) -> Decoding
     }
 }
 
-// The element f at the front of s is a signal's first.
+// The element f at the front of s is the first of a signal.
 fn typed(s: &[u8], f: Frame) -> Decoding
     requires { ⌜ frontIn (now s) (Whole f) ≡ some (front (now s)) ⌝ }
     ensures { λ r. ⌜ decodingIn (now (s .entry)) r ≡ some (signalBy (elementIn (now (s .entry)) f) (drop (wholeLength f) (now (s .entry)))) ⌝ }
@@ -139,7 +140,7 @@ fn typed(s: &[u8], f: Frame) -> Decoding
     if is_type(s, f) {
         let d = bat::framing::whole_length(f);
         let kind = InnerType {
-            compatibility: f.compatibility,
+            compatibility: f.compatibility % 128,
             kind: bat::framing::octet_at(bat::framing::contents(s, f), 0),
         };
         return timed(kind, d, octets::spans::after(s, d));

@@ -8,31 +8,33 @@ ghost use Prim.Native.Nat.{ℕ, _≤_, max};
 ghost use Rattle.bat.specs.Framing.{front};
 ghost use Rattle.bat.specs.Values.{decoding};
 ghost use Rattle.bat.specs.Judging.{finding, judgedData};
-ghost use Rattle.bat.specs.Meaning.{decodingIn, elementIn, frontIn, findingIn, dataNumber, toldBy, toldOf};
+ghost use Rattle.bat.specs.FramingMeaning.{elementIn, frontIn};
+ghost use Rattle.bat.specs.ValueMeaning.{decodingIn};
+ghost use Rattle.bat.specs.JudgingMeaning.{findingIn, dataNumber, toldBy, toldOf};
 ghost use Rattle.bat.specs.declared.Framed.the-variants.{Whole};
 ghost use Rattle.bat_read.specs.Examining.{examine, examinedIn, Listing, listings, listingsIn};
-ghost use Rattle.bat_read.specs.Steps.{indexIn, dataAskedIn, gravest, ownIn, ownOf};
+ghost use Rattle.bat_read.specs.Private.{indexIn, dataAskedIn, gravest, ownIn, ownOf};
 ghost use mathlib.Core.List.{List};
 ghost use lib.ListN.{drop};
 use bat::Counted;
 use bat::DataAnswer;
 use bat::DataOutcome;
+use bat::Decoding;
 use bat::Diagnostic;
+use bat::Finding;
 use bat::Frame;
 use bat::Framed;
 use bat::Outcome;
 use bat::Place;
-use bat::Decoding;
-use bat::Finding;
 
-// An element at the front of a slice and what is made of it.
+// An element at the front of a slice, and what is found of it.
 pub enum Examined {
     Element(Frame, Finding),
     Unframed,
     Ended,
 }
 
-// A diagnostic that is listed, and the place in the data behind its element.
+// A listed diagnostic, and the place in the data after its element.
 pub enum Listed {
     Next(Diagnostic, usize),
     NoneLeft,
@@ -44,7 +46,7 @@ enum Own {
     ListsNone,
 }
 
-// Where the first inner element stands that is no single codec, if there is one.
+// Where the first inner element is that is no single codec, if there is one.
 pub enum Offence {
     At(usize),
     Nowhere,
@@ -74,7 +76,7 @@ pub fn decode(identifier: u8, contents: &[u8]) -> Decoding
     }
 }
 
-// The index of an unrecognised element's diagnostic, whose head has n octets.
+// The index of an unrecognised element's diagnostic; n octets are before its contents.
 fn index(decoding: Decoding, n: usize) -> usize
     requires { ⌜ indexIn n decoding ≤ 131327 ⌝ }
     ensures { λ r. ⌜ r ≡ indexIn n decoding ⌝ }
@@ -88,7 +90,7 @@ fn index(decoding: Decoding, n: usize) -> usize
     }
 }
 
-// What is made of the element f at the front of s.
+// What is found of the element f at the front of s.
 fn judge_frame(s: &[u8], f: Frame, pass: bool) -> Finding
     requires { ⌜ frontIn (now s) (Whole f) ≡ some (front (now s)) ⌝ }
     ensures { λ r. ⌜ findingIn ((elementIn (now (s .entry)) f) .contents) r ≡ some (finding pass (elementIn (now (s .entry)) f)) ⌝ }
@@ -101,7 +103,7 @@ fn judge_frame(s: &[u8], f: Frame, pass: bool) -> Finding
     Finding::Recognised(value)
 }
 
-// What stands at the front of s, and what is made of it, where passing on is possible or not.
+// What is at the front of s, and what is found of it. `pass` says whether passing on is possible.
 pub fn examine_first(s: &[u8], pass: bool) -> Examined
     ensures { λ r. ⌜ examinedIn (now (s .entry)) r ≡ some (examine pass (now (s .entry))) ⌝ }
 {
@@ -113,7 +115,7 @@ pub fn examine_first(s: &[u8], pass: bool) -> Examined
     }
 }
 
-// The outcome that an element's verdict asks for the data.
+// The outcome that an element asks for the data as a whole.
 fn asks(v: Finding) -> DataOutcome
     ensures { λ r. ⌜ dataNumber r ≡ dataAskedIn v ⌝ }
 {
@@ -146,7 +148,7 @@ fn graver(a: DataOutcome, b: DataOutcome) -> DataOutcome
     }
 }
 
-// What is made of the data as a whole, as far as it can be framed.
+// The outcome of the data as a whole, as far as it can be framed.
 fn outcome(data: &[u8], pass: bool) -> DataOutcome
     ensures { λ r. ⌜ dataNumber r ≡ gravest pass (now («data» .entry)) ⌝ }
 {
@@ -170,7 +172,7 @@ fn outcome(data: &[u8], pass: bool) -> DataOutcome
     worst
 }
 
-// The answer to application data, with a table of so many entries, where passing on is possible or not.
+// The answer to application data, with a table of so many entries. `pass` says whether passing on is possible.
 pub fn judge_data(data: &[u8], entries: usize, pass: bool) -> DataAnswer
     ensures { λ r. ⌜ toldBy r ≡ toldOf (judgedData pass entries (now («data» .entry))) ⌝ }
 {
@@ -184,7 +186,7 @@ pub fn judge_data(data: &[u8], entries: usize, pass: bool) -> DataAnswer
     }
 }
 
-// The diagnostic that an element lists, by its verdict.
+// The diagnostic that an element lists, by what is found of it.
 fn lists(v: Finding) -> Own
     ensures { λ r. ⌜ ((n : ℕ) (ls : List Listing) → ownIn r n ls ≡ ownOf v n ls) ⌝ }
 {
@@ -200,9 +202,9 @@ fn lists(v: Finding) -> Own
     }
 }
 
-// The first diagnostic that is listed of the data's elements from a place on, where passing on is possible
-// or not. It goes as far as the data can be framed, and is for data that `judge_data` has taken: nothing of
-// refused data is listed.
+// The first listed diagnostic of the data's elements from a place on. `pass` says whether passing on is possible.
+// It goes as far as the data can be framed, and is for data that `judge_data` has taken: refused data lists
+// nothing.
 pub fn next_listed(data: &[u8], from: usize, pass: bool) -> Listed
     ensures { λ r. ⌜ listingsIn pass (now («data» .entry)) r ≡ listings pass from (drop from (now («data» .entry))) ⌝ }
 {

@@ -2,12 +2,12 @@
 ghost use mathlib.Core.Path.{_≡_};
 ghost use mathlib.Core.Option.{some};
 ghost use lib.ListN.{drop};
-ghost use Rattle.bat_read.specs.Steps.{Stands};
+ghost use Rattle.bat_read.specs.Private.{Stands};
 ghost use Rattle.bat.specs.Values.{actionIn, backboneIn, addressIn, singleIn, reportIn, characteristicsIn, controlIn, tunnellingIn, unitIn, capabilityIn, indicatorsIn, typeIn, durationIn};
-ghost use Rattle.bat.specs.Meaning.{decodingIn};
-use bat::SingleCodec;
-use bat::Place;
+ghost use Rattle.bat.specs.ValueMeaning.{decodingIn};
 use bat::Decoding;
+use bat::Place;
+use bat::SingleCodec;
 use bat::Value;
 use octets::Span;
 
@@ -21,8 +21,8 @@ fn all(s: &[u8]) -> Span
     }
 }
 
-// What of s stands behind its first n octets.
-fn behind(s: &[u8], n: usize) -> Span
+// What follows the first n octets of s.
+fn rest(s: &[u8], n: usize) -> Span
     ensures { λ r. ⌜ Stands (now (s .entry)) (drop n (now (s .entry))) r ⌝ }
 {
     if s.len() < n {
@@ -75,7 +75,7 @@ pub(crate) fn single(s: &[u8]) -> Decoding
     if bat::ranges::is_codec(s) {
         return Decoding::Decoded(Value::Single(SingleCodec {
             organisation: bat::framing::octet_at(s, 0),
-            information: behind(s, 1),
+            information: rest(s, 1),
         }));
     }
     Decoding::Unrecognised(Place::Itself)
@@ -93,7 +93,7 @@ pub(crate) fn report(s: &[u8]) -> Decoding
     }
     Decoding::Decoded(Value::Report {
         reason: s[0],
-        diagnostics: behind(s, 1),
+        diagnostics: rest(s, 1),
     })
 }
 
@@ -144,7 +144,7 @@ pub(crate) fn unit(s: &[u8]) -> Decoding
     }
     Decoding::Decoded(Value::Unit {
         network: Span { at: 1, len: n },
-        local: behind(s, 1 + n),
+        local: rest(s, 1 + n),
     })
 }
 

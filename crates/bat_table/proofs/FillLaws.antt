@@ -8,12 +8,12 @@ use lib.ListN.{length, take, drop, set, getD, length-set}
 use lib.Seq.{drop-cons, drop-drop, drop-at, take-suc, take-all, length-take-le, set-at}
 use native.Mathlib.Omega.{arith}
 use Rattle.bat.specs.Framing.{Element, whole, front, first, onFront, elements, Cut, refused, taken, cut}
-use Rattle.bat.specs.Meaning.{countOf}
+use Rattle.bat.specs.FramingMeaning.{countOf}
 use Rattle.bat.proofs.WalkLaws.{front-within}
 use Rattle.bat.proofs.DataLaws.{elements-next, Taken, taken-is}
 use Rattle.bat_table.specs.declared.Entry.{Entry}
 use Rattle.bat_table.specs.Table.{entryOf, entriesFrom, filledBy, tableAfter, noEntry}
-use Rattle.bat_table.specs.Steps.{storedBy, stepAt}
+use Rattle.bat_table.specs.Private.{storedBy, stepAt}
 
 -- ---- i entries are stored, and the next element is at `spot`
 abbrev pub spot : List ℕ → ℕ → ℕ

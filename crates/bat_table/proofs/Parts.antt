@@ -9,10 +9,11 @@ use lib.ListN.{length, drop, getD, length-append}
 use lib.Seq.{drop-drop, drop-at, take-at}
 use native.Mathlib.Omega.{arith}
 use Rattle.bat.specs.Framing.{Element, whole, header, elements, taken, cut}
-use Rattle.bat.specs.Meaning.{countOf}
+use Rattle.bat.specs.FramingMeaning.{countOf}
 use Rattle.bat.proofs.WalkLaws.{front-whole}
 use Rattle.bat.proofs.DataLaws.{elements-next, laid, taken-is}
-use Rattle.bat_table.specs.Table.{entryOf, entriesFrom, entryOctets, noEntry, refusedFrom, countForC}
+use Rattle.octets.specs.Puts.{refusedFrom}
+use Rattle.bat_table.specs.Table.{entryOf, entriesFrom, entryOctets, noEntry, countForC}
 
 parts-from : (s : List ℕ) (d : ℕ) (es : List Element) → flatMap whole es ≡ drop d s → map (entryOctets s) (entriesFrom d es) ≡ map whole es
 unfolding entriesFrom flatMap

@@ -1,4 +1,4 @@
--- An entry has 24 octets, and its place in a table that is lent fits a pointer's offset.
+-- An entry has 24 octets, and its place in the caller's table fits a pointer's offset.
 -- Assumes nothing.
 use Prim.Native.Nat.{ℕ, _*_, _^_, _<_}
 use native.Mathlib.Omega.{arith}

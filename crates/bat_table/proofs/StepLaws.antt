@@ -1,4 +1,4 @@
--- What is to be done with the data, and the step that finds the element at a place of it and goes to the place behind that.
+-- What is to be done with the data, and the step that finds the element at a place and goes to the place after it.
 -- Assumes nothing.
 use Prim.Native.Nat.{ℕ, _+_, _^_, _<_}
 use mathlib.Core.Path.{_≡_, refl, ap}
@@ -17,13 +17,14 @@ use Rattle.bat.specs.declared.Frame.{Frame}
 use Rattle.bat.specs.declared.Framed.{Framed}
 use Rattle.bat.specs.declared.Framed.the-variants.{Whole, Unframed, Ended}
 use Rattle.bat.specs.Framing.{front, onFront, cut}
-use Rattle.bat.specs.Meaning.{elementIn, frontIn, WholeLength, countOf}
+use Rattle.bat.specs.FramingMeaning.{elementIn, frontIn, WholeLength, countOf}
 use Rattle.bat.proofs.Framed.{the-type}
 use Rattle.bat.proofs.CountLaws.{frame-ended, frame-unframed, frame-inside, frame-first, frame-length, frame-some}
 use Rattle.bat_table.specs.declared.Plan.{Plan}
 use Rattle.bat_table.specs.declared.Step.{Step}
-use Rattle.bat_table.specs.Table.{refusedFrom, countForC}
-use Rattle.bat_table.specs.Steps.{planFor, stayAt, stepAt}
+use Rattle.octets.specs.Puts.{refusedFrom}
+use Rattle.bat_table.specs.Table.{countForC}
+use Rattle.bat_table.specs.Private.{planFor, stayAt, stepAt}
 
 -- ---- what is to be done
 module _ (entries : ℕ) (s : List ℕ) (c : Counted) (e : c ≡ countOf (cut entries s)) where

@@ -1,3 +1,4 @@
--- What the contracts of this crate speak of: `Table` is document 01's table of element entries, `Steps` serves the code alone.
+-- The definitions that the contracts of this crate cite: document 01's table of element entries. `Private` is used only by
+-- private functions.
 pub mod Table
-pub mod Steps
+pub mod Private

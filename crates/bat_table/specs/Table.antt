@@ -1,24 +1,25 @@
--- Document 01, "Elements", its second paragraph: the table of element entries that a caller lends. It is filled in order, one
--- entry for each element of the data. How data is cut into elements, and numbers 1, 2 and 3, are in `Framing` of `bat`.
+-- Document 01, "Elements", the second paragraph: the caller's table of element entries. It is filled in order, one entry for
+-- each element of the data. How data is cut into elements, and numbers 1, 2 and 3, are in `Framing` of `bat`.
 use Prim.Native.Nat.{ℕ, _+_}
 use mathlib.Core.List.{List, [], _∷_, _++_}
 use lib.ListN.{length, take, drop}
+use Rattle.octets.specs.Puts.{refusedFrom}
 use Rattle.bat.specs.declared.Counted.{Counted}
 use Rattle.bat.specs.declared.Counted.the-variants.{Elements, Refused}
 use Rattle.bat.specs.Framing.{Element, whole, Cut, refused, taken, cut}
 use Rattle.bat_table.specs.declared.Entry.{Entry}
 
--- an element whose identifier octet stands at d of the data; its length is that of all its octets
+-- the entry of an element whose identifier is at d of the data; its length counts all its octets
 abbrev pub entryOf : ℕ → Element → Entry
 entryOf d e = record { identifier = e .identifier; start = d; length = length (whole e) }
 
--- elements one behind the other, of which the first stands at d
+-- the entries of consecutive elements, the first at d
 unfoldable pub entriesFrom : ℕ → List Element → List Entry
 entriesFrom d [] = []
 entriesFrom d (e ∷ es) = entryOf d e ∷ entriesFrom (d + length (whole e)) es
 
--- What becomes of the table ys. Data that is refused leaves it as it was (document 01, "Refusal numbers"); else its
--- entries stand at the front, and those beyond their count are untouched.
+-- The table ys after the call. Refused data leaves it as it was (document 01, "Refusal numbers"). Otherwise the data's
+-- entries are at its front, and those beyond their count are untouched.
 unfoldable pub filledBy : Cut → List Entry → List Entry
 filledBy (refused n) ys = ys
 filledBy (taken es) ys = entriesFrom 0 es ++ drop (length es) ys
@@ -30,14 +31,11 @@ tableAfter s ys = filledBy (cut (length ys) s) ys
 abbrev pub entryOctets : List ℕ → Entry → List ℕ
 entryOctets s x = take (x .length) (drop (x .start) s)
 
--- what stands for an entry where there is none
+-- the answer if there is no such entry
 abbrev pub noEntry : Entry
 noEntry = record { identifier = 0; start = 0; length = 0 }
 
--- For C, an answer as one number: the count of elements, or document 01's number above one that no count reaches.
-abbrev pub refusedFrom : ℕ
-refusedFrom = 65536
-
+-- the answer for C (`refusedFrom`)
 abbrev pub countForC : Counted → ℕ
 countForC (Elements n) = n
 countForC (Refused n) = refusedFrom + n

@@ -1,13 +1,13 @@
-// From one element of the data to the next, for every place: what the functions over a table call.
+// From one element of the data to the next: what the functions over a table call.
 ghost use mathlib.Core.Path.{_≡_};
 ghost use Rattle.bat_table.specs.Table.{countForC};
-ghost use Rattle.bat_table.specs.Steps.{planFor, stepAt};
+ghost use Rattle.bat_table.specs.Private.{planFor, stepAt};
 use crate::Entry;
 use crate::Plan;
-use crate::REFUSED;
 use crate::Step;
 use bat::Counted;
 use bat::Framed;
+use octets::REFUSED;
 
 // An answer as one number.
 pub(crate) fn code(c: Counted) -> usize
@@ -19,7 +19,7 @@ pub(crate) fn code(c: Counted) -> usize
     }
 }
 
-// What is to be done with the data, where a table of so many entries is lent.
+// What is to be done with the data, with a table of so many entries.
 pub(crate) fn plan_for(data: &[u8], entries: usize) -> Plan
     ensures { λ r. ⌜ r ≡ planFor entries (now («data» .entry)) ⌝ }
 {
@@ -36,8 +36,8 @@ pub(crate) fn plan_for(data: &[u8], entries: usize) -> Plan
     }
 }
 
-// The entry of the element at a place of the data, and the place behind it. Where no element can be
-// framed, an entry of no octets, and the same place.
+// The entry of the element at a place of the data, and the place after it. If no element can be framed there, an
+// entry of no octets and the same place.
 pub(crate) fn step_at(data: &[u8], at: usize) -> Step
     ensures { λ r. ⌜ r ≡ stepAt (now («data» .entry)) at ⌝ }
 {

@@ -1,4 +1,4 @@
--- A codec list is written anew element by element: what its elements are read as is a single codec each, whose text is the element's contents.
+-- A codec list is written again element by element: each is read as a single codec, whose text is the element's contents.
 -- Assumes nothing.
 use Prim.Native.Nat.{ℕ, _+_, _≤_, _<_}
 use mathlib.Core.Path.{_≡_, refl, sym, _∙_}
@@ -18,15 +18,14 @@ use Rattle.bat.specs.declared.Framed.{Framed}
 use Rattle.bat.specs.declared.Framed.the-variants.{Whole, Unframed, Ended}
 use Rattle.bat.specs.Framing.{Element, whole, first, unframed, ended, front, walk}
 use Rattle.bat.specs.Values.{InnerCodec, Codecs, allCodecs, offence, withSingle, onCodecs, isSingle, codecThen, codecsIn, innerCodec, rightSingle, singleCodec, meant}
-use Rattle.bat.specs.Writing.{elementText, codecText, codecsText, contentsText, allSinglesRight, valueInRange}
-use Rattle.bat.specs.Meaning.{elementIn, frontIn, WholeLength}
+use Rattle.bat.specs.Writing.{elementText, codecText, codecsText, contentsText, innerCodecsInRange, valueInRange}
+use Rattle.bat.specs.FramingMeaning.{elementIn, frontIn, WholeLength}
 use Rattle.bat.proofs.WalkLaws.{size-small, front-size, front-nil, walk-ended, walk-unframed, walk-first, fold-ended, fold-unframed, fold-first, by-front}
 use Rattle.bat.proofs.CountLaws.{frame-ended, frame-unframed, frame-first}
-use Rattle.bat.specs.Back.{sevenBitCodecs}
 use Rattle.bat_read.specs.declared.Offence.{Offence}
 use Rattle.bat_read.specs.declared.Offence.the-variants.{At, Nowhere}
 use Rattle.bat_read.specs.Examining.{offenceOf}
-use Rattle.bat_write.specs.Texts.{listOf, codecsOf, valueInRangeIn, contentsIn, codecsAnew}
+use Rattle.bat_write.specs.Private.{listOf, codecsOf, valueInRangeIn, contentsIn, codecsAnew}
 
 -- ---- the contents of an element have at most 2,046 octets
 pub contents-small : (t : List ℕ) (x : Framed) (f : Frame) (w : ℕ) (u : List ℕ) → frontIn t x ≡ some (front t) → x ≡ Whole f → WholeLength f w → u ≡ elementIn t f .contents → length u ≤ 2046
@@ -59,16 +58,15 @@ single-right : (e : Element) → isSingle e ≡ true → rightSingle (singleCode
 unfolding isSingle
 single-right e p = and-eq-true-iff (eqb (e .identifier) 5) (rightSingle (singleCodec (e .contents))) .0 p .1
 
--- s is the codecs cs: they are written as s is anew, each is right, the compatibility of each is seven bits, and there are some where s is not empty
+-- s is the codecs cs: they are written as s is anew, each is in range, and there are some where s is not empty
 pub record Listed (s : List ℕ) (cs : List InnerCodec) : Type 0 where
   pub text : codecsAnew s ≡ codecsText cs
-  pub right : allSinglesRight cs ≡ true
-  pub settles : sevenBitCodecs cs ≡ true
+  pub right : innerCodecsInRange cs ≡ true
   pub many : 1 ≤ length s → 1 ≤ length cs
 
 listed-with : (s : List ℕ) (e : Element) (t : List ℕ) (x : Codecs) (cs : List InnerCodec) → front s ≡ first e t
     → ((bs : List InnerCodec) → x ≡ allCodecs bs → Listed t bs) → isSingle e ≡ true → withSingle (innerCodec e) x ≡ allCodecs cs → Listed s cs
-unfolding withSingle codecsText allSinglesRight sevenBitCodecs
+unfolding withSingle codecsText innerCodecsInRange
 listed-with s e t (offence n) cs q ih single p = absurd (let z : _≡_ {A = ℕ} 0 1 = cc in omega arith)
 listed-with s e t (allCodecs bs) cs q ih single p =
     let is : innerCodec e ∷ bs ≡ cs = cc in
@@ -77,18 +75,17 @@ listed-with s e t (allCodecs bs) cs q ih single p =
     rw (← is)
     (record {
       text = anew-first s e t q ∙ rw (codec-text (e .contents) right, rest .text);
-      right = rw (right, rest .right);
-      settles = rw (lt-ltb (meant (e .compatibility)) 128 (omega arith), rest .settles);
+      right = rw (lt-ltb (meant (e .compatibility)) 128 (omega arith), right, rest .right);
       many = λ h. omega arith;
     })
 
 listed-at : (s : List ℕ) (d : ℕ) (cs : List InnerCodec) → walk codecThen offence (allCodecs []) d s ≡ allCodecs cs → Listed s cs
-unfolding codecThen codecsText allSinglesRight sevenBitCodecs
+unfolding codecThen codecsText innerCodecsInRange
 listed-at =
     by-front (λ (s : List ℕ). (d : ℕ) (cs : List InnerCodec) → walk codecThen offence (allCodecs []) d s ≡ allCodecs cs → Listed s cs)
     (λ d cs p. let w = walk-ended codecThen offence (allCodecs []) d [] front-nil in
     let is : _≡_ {A = List InnerCodec} [] cs = cc in
-    rw (← is) (record { text = anew-ended [] front-nil; right = refl; settles = refl; many = λ h. h }))
+    rw (← is) (record { text = anew-ended [] front-nil; right = refl; many = λ h. h }))
     (λ s q d cs p. absurd (let w = walk-unframed codecThen offence (allCodecs []) d s q in let z : _≡_ {A = ℕ} 0 1 = cc in omega arith))
     (λ s e t q ih d cs p.
     let x = walk codecThen offence (allCodecs []) (d + length (whole e)) t in

@@ -1,4 +1,4 @@
--- Octets are diagnostics where they come in threes, and the diagnostics are written as the same octets, since each is below 256.
+-- Octets are diagnostics if they come in threes, and the diagnostics are written as the same octets, since each is below 256.
 -- Assumes nothing.
 use Prim.Native.Nat.{ℕ, suc, _+_, _*_, _/_, _%_}
 use mathlib.Core.Path.{_≡_, refl, _∙_}
@@ -13,7 +13,7 @@ use mir.Val.{Fits}
 use Rattle.octets.specs.Append.{Appends}
 use Rattle.bat.specs.Values.{Diagnostic, report, diagnosticsIn}
 use Rattle.bat.specs.Writing.{diagnosticsText, contentsText, valueInRange}
-use Rattle.bat_write.specs.Texts.{reportOf, valueInRangeIn, contentsIn}
+use Rattle.bat_write.specs.Private.{reportOf, valueInRangeIn, contentsIn}
 use Rattle.octets.proofs.AppendLaws.{octet-then}
 
 diagnostics-with : (i a b : ℕ) (s : List ℕ) (o : Option (List Diagnostic)) (ds : List Diagnostic) → Fits w8 b → ((es : List Diagnostic) → o ≡ some es → diagnosticsText es ≡ s)

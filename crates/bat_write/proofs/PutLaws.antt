@@ -1,4 +1,4 @@
--- The octets of an element are written at the front of a buffer where they are not too many and find room: its length tells both.
+-- The octets of an element are written at the front of a buffer if they are not too many and fit: its length decides both.
 -- Assumes nothing.
 use Prim.Native.Nat.{ℕ, _≤_, _<_}
 use mathlib.Core.Path.{_≡_, sym, _∙_}
@@ -10,11 +10,11 @@ use borrow.Author.Tests.{lt-ltb, le-ltb, le-leb, lt-leb}
 use Rattle.octets.specs.Append.{Appends}
 use Rattle.octets.proofs.PutsLaws.{puts-none, puts-short, puts-all}
 use Rattle.octets.proofs.CaseLaws.{by-lt}
-use Rattle.octets.specs.declared.Put.the-variants.{Octets, Refused as RefusedPut}
+use Rattle.octets.specs.declared.Put.the-variants as put
 use Rattle.octets.specs.Puts.{bounded, Puts}
 use Rattle.bat.specs.Writing.{elementText}
 use Rattle.bat.specs.Framing.{mostOctets}
-use Rattle.bat_write.specs.Texts.{elementLength}
+use Rattle.bat_write.specs.Private.{elementLength}
 use Rattle.bat_write.proofs.ElementLaws.{length-element}
 
 -- at most 2,048 octets in all are at most 2,044 of contents
@@ -35,14 +35,14 @@ module _ (i c : ℕ) (s l : List ℕ) where
   unfolding bounded
   not-long h = rw (le-leb (length (elementText i c s)) mostOctets (omega (arith, length-element i c s, few-octets (length s) h)))
 
-  pub puts-long : 2044 < length s → Puts (bounded mostOctets (elementText i c s)) l (RefusedPut 5) l
+  pub puts-long : 2044 < length s → Puts (bounded mostOctets (elementText i c s)) l (put.Refused 5) l
   puts-long h = rw (too-long h) (puts-none l)
 
   module _ (w : ℕ) (e : w ≡ elementLength (length s)) (h : length s ≤ 2044) where
-    pub puts-little : length l < w → Puts (bounded mostOctets (elementText i c s)) l (RefusedPut 4) l
+    pub puts-little : length l < w → Puts (bounded mostOctets (elementText i c s)) l (put.Refused 4) l
     puts-little k = rw (not-long h) (puts-short (elementText i c s) l (omega (arith, length-element i c s)))
 
-    pub puts-whole : (r : ℕ) (f : List ℕ) → Appends l 0 (elementText i c s) r f → w ≤ length l → Puts (bounded mostOctets (elementText i c s)) l (Octets w) f
+    pub puts-whole : (r : ℕ) (f : List ℕ) → Appends l 0 (elementText i c s) r f → w ≤ length l → Puts (bounded mostOctets (elementText i c s)) l (put.Octets w) f
     puts-whole r f p k =
         let t = elementText i c s in
         let n : length t ≡ w = length-element i c s ∙ sym e in

@@ -12,16 +12,15 @@ use Rattle.octets.specs.Spans.{textOf}
 use Rattle.octets.specs.Append.{Appends}
 use Rattle.octets.proofs.PutsLaws.{puts-none, scratch-text}
 use Rattle.octets.proofs.CaseLaws.{by-le}
-use Rattle.bat.specs.declared.Value.{Value as ValuePlace}
-use Rattle.bat.specs.declared.Value.the-variants.{Action, Backbone, Address, Codecs as CodecsPlace, Single, Report, Characteristics, Control, Tunnelling, Unit as UnitPlace, Signal, Capability, Indicators, SignalType, Duration}
+use Rattle.bat_write.specs.Code as code
 use Rattle.octets.specs.declared.Put.{Put}
-use Rattle.octets.specs.declared.Put.the-variants.{Refused as RefusedPut}
+use Rattle.octets.specs.declared.Put.the-variants as put
 use Rattle.bat.specs.Values.{Diagnostic, Value, Codecs, allCodecs, offence, onCodecs, codecsIn, report, diagnosticsIn}
 use Rattle.octets.specs.Puts.{bounded, Puts}
 use Rattle.bat.specs.Writing.{elementText, identifierOf, valueText, elementOctets, elementOctetsIn}
-use Rattle.bat.specs.Meaning.{valueBy}
+use Rattle.bat.specs.ValueMeaning.{valueBy}
 use Rattle.bat.specs.Framing.{mostOctets}
-use Rattle.bat_write.specs.Texts.{listOf, valueInRangeIn, contentsIn, identifierIn}
+use Rattle.bat_write.specs.Private.{listOf, valueInRangeIn, contentsIn, identifierIn}
 use Rattle.bat_write.proofs.PutLaws.{too-long}
 
 -- ---- the identifier
@@ -35,23 +34,23 @@ unfolding Option·elim identifierOf
 report-coded r none = refl
 report-coded r (some ds) = refl
 
-coded : (s : List ℕ) (v : ValuePlace) → Option·elim (valueBy s v) (identifierIn v) identifierOf ≡ identifierIn v
+coded : (s : List ℕ) (v : code.Value) → Option·elim (valueBy s v) (identifierIn v) identifierOf ≡ identifierIn v
 unfolding valueBy identifierIn Option·elim identifierOf
-coded s (Action n) = refl
-coded s (Backbone p) = refl
-coded s (Address p) = refl
-coded s (CodecsPlace p) = codecs-coded (codecsIn (textOf s p))
-coded s (Single c) = refl
-coded s (Report r p) = report-coded r (diagnosticsIn (textOf s p))
-coded s (Characteristics n) = refl
-coded s (Control p) = refl
-coded s (Tunnelling b) = refl
-coded s (UnitPlace n l) = refl
-coded s (Signal k t) = refl
-coded s (Capability b) = refl
-coded s (Indicators p) = refl
-coded s (SignalType n) = refl
-coded s (Duration n) = refl
+coded s (code.Action n) = refl
+coded s (code.Backbone p) = refl
+coded s (code.Address p) = refl
+coded s (code.Codecs p) = codecs-coded (codecsIn (textOf s p))
+coded s (code.Single c) = refl
+coded s (code.Report r p) = report-coded r (diagnosticsIn (textOf s p))
+coded s (code.Characteristics n) = refl
+coded s (code.Control p) = refl
+coded s (code.Tunnelling b) = refl
+coded s (code.Unit n l) = refl
+coded s (code.Signal k t) = refl
+coded s (code.Capability b) = refl
+coded s (code.Indicators p) = refl
+coded s (code.SignalType n) = refl
+coded s (code.Duration n) = refl
 
 -- ---- the octets
 octets-right : (c i : ℕ) (o : Option Value) → valueInRangeIn o ≡ true → Option·elim o i identifierOf ≡ i → elementOctetsIn c o ≡ bounded mostOctets (elementText i c (contentsIn o))
@@ -71,8 +70,8 @@ bounded-cut i c s =
     (λ h. rw (take-all mostOctets s h))
     (λ h. too-long i c (take mostOctets s) s (simp length-take (omega arith)) ∙ sym (too-long i c s s (omega arith)))
 
-module _ (s l : List ℕ) (c : ℕ) (v : ValuePlace) (t : Bool) (is : t ≡ valueInRangeIn (valueBy s v)) where
-  pub writes-none : t ≡ false → Puts (elementOctetsIn c (valueBy s v)) l (RefusedPut 5) l
+module _ (s l : List ℕ) (c : ℕ) (v : code.Value) (t : Bool) (is : t ≡ valueInRangeIn (valueBy s v)) where
+  pub writes-none : t ≡ false → Puts (elementOctetsIn c (valueBy s v)) l (put.Refused 5) l
   writes-none e = rw (octets-wrong c (valueBy s v) (sym is ∙ e)) (puts-none l)
 
   pub writes : (z g : List ℕ) (n i : ℕ) (r : Put) (f : List ℕ) → t ≡ true → Appends z 0 (contentsIn (valueBy s v)) n g → length z ≡ mostOctets → i ≡ identifierIn v

@@ -1,19 +1,19 @@
 // The contents of a value's element, appended to a buffer.
 ghost use mathlib.Core.Path.{_≡_};
 ghost use mathlib.Core.List.{_∷_, _++_};
-ghost use mathlib.Core.Bool.{true};
+ghost use mathlib.Core.Bool.{true, _&&_};
 ghost use Prim.Native.Nat.{_≤_};
 ghost use lib.ListN.{length};
 ghost use Rattle.octets.specs.Append.{Appends};
 ghost use Rattle.bat.specs.Values.{signal};
-ghost use Rattle.bat.specs.Writing.{sixteenBitsText, bitText, codecText, innerDurationText, contentsText};
-ghost use Rattle.bat.specs.Meaning.{valueBy, singleCodecIn, innerTypeIn, innerDurationIn};
-ghost use Rattle.bat_write.specs.Texts.{reportOf, valueInRangeIn, contentsIn, codecsAnew};
+ghost use Rattle.bat.specs.Writing.{sixteenBitsText, bitText, codecText, innerDurationText, contentsText, innerTypeInRange, innerDurationInRange};
+ghost use Rattle.bat.specs.ValueMeaning.{valueBy, singleCodecIn, innerTypeIn, innerDurationIn};
+ghost use Rattle.bat_write.specs.Private.{reportOf, valueInRangeIn, contentsIn, codecsAnew};
 use crate::element::push_element;
-use bat::SingleCodec;
 use bat::Framed;
 use bat::InnerDuration;
 use bat::InnerType;
+use bat::SingleCodec;
 use bat::Value;
 use octets::append::push;
 use octets::append::push_octet;
@@ -100,6 +100,7 @@ fn push_unit(network: &[u8], local: &[u8], out: &mut [u8], at: usize) -> usize
 
 // Appends the duration of a signal.
 fn push_lasting(duration: InnerDuration, out: &mut [u8], at: usize) -> usize
+    requires { ⌜ innerDurationInRange (innerDurationIn duration) ≡ true ⌝ }
     ensures { λ r. ⌜ Appends (now (out .entry)) at (innerDurationText (innerDurationIn duration)) r (now (out .exit)) ⌝ }
 {
     match duration {
@@ -116,6 +117,7 @@ fn push_lasting(duration: InnerDuration, out: &mut [u8], at: usize) -> usize
 
 // Appends the type and the duration of a signal.
 fn push_signal(kind: InnerType, duration: InnerDuration, out: &mut [u8], at: usize) -> usize
+    requires { ⌜ (innerTypeInRange (innerTypeIn kind) && innerDurationInRange (innerDurationIn duration)) ≡ true ⌝ }
     ensures { λ r. ⌜ Appends (now (out .entry)) at (contentsText (signal (innerTypeIn kind) (innerDurationIn duration))) r (now (out .exit)) ⌝ }
 {
     let code = [kind.kind];

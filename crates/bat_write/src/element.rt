@@ -6,7 +6,7 @@ ghost use lib.ListN.{length};
 ghost use Rattle.octets.specs.Append.{Appends};
 ghost use Rattle.bat.specs.Values.{meant};
 ghost use Rattle.bat.specs.Writing.{sizeText, elementText};
-ghost use Rattle.bat_write.specs.Texts.{elementLength};
+ghost use Rattle.bat_write.specs.Private.{elementLength};
 use octets::append::push;
 use octets::append::push_octet;
 

@@ -8,13 +8,13 @@ ghost use Rattle.bat.specs.Framing.{mostOctets};
 ghost use Rattle.bat.specs.Values.{meant};
 ghost use Rattle.octets.specs.Puts.{bounded, Puts};
 ghost use Rattle.bat.specs.Writing.{elementText, elementOctetsIn};
-ghost use Rattle.bat.specs.Meaning.{valueBy, valueIn};
-ghost use Rattle.bat_write.specs.Texts.{identifierIn};
+ghost use Rattle.bat.specs.ValueMeaning.{valueBy, valueIn};
+ghost use Rattle.bat_write.specs.Private.{identifierIn};
 use bat::MOST_OCTETS;
 use bat::Value;
 use octets::Put;
 
-// The most octets of contents: an identifier, two octets of length and one of compatibility stand before them.
+// The most octets of contents: an identifier, two octets of length and one of compatibility come before them.
 const MOST_CONTENTS: usize = MOST_OCTETS - 4;
 
 // The identifier of a value's element.
@@ -65,7 +65,7 @@ fn put_element(identifier: u8, compatibility: u8, contents: &[u8], out: &mut [u8
     Put::Octets(whole)
 }
 
-// Writes the element of a value whose spans lie inside source.
+// Writes the element of a value whose spans are inside source.
 fn write_inside(value: Value, source: &[u8], compatibility: u8, out: &mut [u8]) -> Put
     ensures { λ r. ⌜ Puts (elementOctetsIn (meant compatibility) (valueBy (now (source .entry)) value)) (now (out .entry)) r (now (out .exit)) ⌝ }
 {

@@ -5,8 +5,11 @@ ghost use lib.ListN.{length};
 ghost use lib.Dec.{leb};
 ghost use Rattle.bat.specs.Values.{rightSingle};
 ghost use Rattle.octets.specs.Spans.{inside};
-ghost use Rattle.bat.specs.Meaning.{valueBy, singleCodecIn, valueInside};
-ghost use Rattle.bat_write.specs.Texts.{codecsOf, reportOf, valueInRangeIn};
+ghost use Rattle.bat.specs.Writing.{innerTypeInRange, innerDurationInRange};
+ghost use Rattle.bat.specs.ValueMeaning.{valueBy, singleCodecIn, innerTypeIn, innerDurationIn, valueInside};
+ghost use Rattle.bat_write.specs.Private.{codecsOf, reportOf, valueInRangeIn};
+use bat::InnerDuration;
+use bat::InnerType;
 use bat::SingleCodec;
 use bat::Value;
 use bat_read::Offence;
@@ -36,7 +39,7 @@ fn is_codec(c: SingleCodec, source: &[u8]) -> bool
     bat::ranges::right_codec(c.organisation, text(source, information))
 }
 
-// s is diagnostics and nothing else; the reason may be any.
+// s is diagnostics and nothing else; any reason will do.
 fn are_diagnostics(reason: u8, s: &[u8]) -> bool
     ensures { λ r. ⌜ r ≡ valueInRangeIn (reportOf reason (now (s .entry))) ⌝ }
 {
@@ -53,7 +56,33 @@ fn are_unit(network: &[u8], local: &[u8]) -> bool
     1 <= local.len()
 }
 
-// The value stands for one whose fields are in range.
+// The compatibility of a signal's duration is seven bits.
+fn is_duration(duration: InnerDuration) -> bool
+    ensures { λ r. ⌜ r ≡ innerDurationInRange (innerDurationIn duration) ⌝ }
+{
+    match duration {
+        InnerDuration::Untimed => true,
+        InnerDuration::Lasting {
+            compatibility,
+            duration: _,
+        } => compatibility < 128,
+    }
+}
+
+// The two are the type and the duration of a signal.
+fn are_signal(kind: InnerType, duration: InnerDuration) -> bool
+    ensures { λ r. ⌜ r ≡ (innerTypeInRange (innerTypeIn kind) && innerDurationInRange (innerDurationIn duration)) ⌝ }
+{
+    if 128 <= kind.compatibility {
+        return false;
+    }
+    if codes::is_signal(kind.kind) {
+        return is_duration(duration);
+    }
+    false
+}
+
+// The fields of the value are in range.
 pub(crate) fn in_range(value: Value, source: &[u8]) -> bool
     ensures { λ r. ⌜ r ≡ valueInRangeIn (valueBy (now (source .entry)) value) ⌝ }
 {
@@ -71,7 +100,7 @@ pub(crate) fn in_range(value: Value, source: &[u8]) -> bool
         Value::Control(p) => 1 <= text(source, p).len(),
         Value::Tunnelling(_) => true,
         Value::Unit { network, local } => are_unit(text(source, network), text(source, local)),
-        Value::Signal { kind, duration: _ } => codes::is_signal(kind.kind),
+        Value::Signal { kind, duration } => are_signal(kind, duration),
         Value::Capability(_) => true,
         Value::Indicators(p) => bat::ranges::are_indicators(text(source, p)),
         Value::SignalType(n) => codes::is_signal(n),
@@ -79,7 +108,7 @@ pub(crate) fn in_range(value: Value, source: &[u8]) -> bool
     }
 }
 
-// Both spans lie inside s.
+// Both spans are inside s.
 fn are_inside(s: &[u8], p: Span, q: Span) -> bool
     ensures { λ r. ⌜ r ≡ (inside (now (s .entry)) p && inside (now (s .entry)) q) ⌝ }
 {
@@ -89,7 +118,7 @@ fn are_inside(s: &[u8], p: Span, q: Span) -> bool
     false
 }
 
-// The spans of the value lie inside source.
+// The spans of the value are inside source.
 pub(crate) fn all_inside(value: Value, source: &[u8]) -> bool
     ensures { λ r. ⌜ r ≡ valueInside (now (source .entry)) value ⌝ }
 {

@@ -4,8 +4,8 @@ ghost use mathlib.Core.Path.{_≡_};
 ghost use Rattle.ipbcp.specs.Reading.{readMessage};
 ghost use Rattle.card_packet.specs.Again.{bodyOf, putForC, Rewrites};
 use ipbcp::Body;
-use ipbcp::MessageType;
 use ipbcp::Message;
+use ipbcp::MessageType;
 use media::Stream;
 use octets::Put;
 

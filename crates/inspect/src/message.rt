@@ -4,8 +4,8 @@ use crate::input::Unpacked;
 use crate::print;
 use address::Address;
 use address::write;
-use ipbcp::MessageType;
 use ipbcp::Message;
+use ipbcp::MessageType;
 use media::Stream;
 use media::Texts;
 use notation::push_refused;
@@ -80,7 +80,14 @@ fn push_attributes(m: &[u8], s: Stream, out: &mut [u8], at: usize) -> usize {
 }
 
 // Appends what a Request or Accepted of version 1 says.
-fn push_described(m: &[u8], kind: MessageType, a: Address, s: Stream, out: &mut [u8], at: usize) -> usize {
+fn push_described(
+    m: &[u8],
+    kind: MessageType,
+    a: Address,
+    s: Stream,
+    out: &mut [u8],
+    at: usize,
+) -> usize {
     let k = push_head(1, kind, out, at);
     let k2 = push_address(a, out, k);
     let k3 = push_media(m, s, out, k2);

@@ -1,10 +1,10 @@
 // The value of a decoded element.
 use crate::print;
 use crate::walk;
-use bat::SingleCodec;
 use bat::Framed;
 use bat::InnerDuration;
 use bat::InnerType;
+use bat::SingleCodec;
 use bat::Value;
 use bat::framing;
 use octets::Span;

@@ -18,7 +18,7 @@ use Rattle.line_input.specs.declared.Gathered.{Gathered}
 use Rattle.line_input.specs.Gather.{gathered, Gathers}
 use Rattle.line_input.specs.Whole.{Text, Held, Over, fit, fitAll, heldText, Fed}
 
--- b put behind the last part
+-- b put after the last part
 unfoldable addLast : ℕ → List (List ℕ) → List (List ℕ)
 addLast b [] = (b ∷ []) ∷ []
 addLast b (p ∷ []) = (p ++ (b ∷ [])) ∷ []

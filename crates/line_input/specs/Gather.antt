@@ -10,7 +10,7 @@ use Rattle.octets.specs.Append.{appended}
 use Rattle.octets.specs.Text.{lf}
 use Rattle.line_input.specs.declared.Gathered.{Gathered}
 
--- the answer, where s is what is left of the part, at position i, and the buffer has room for `free` octets behind the n in it
+-- the answer, if s is the rest of the part, from position i, and the buffer has room for `free` octets after the n in it
 unfoldable pub gathered : List ℕ → ℕ → ℕ → ℕ → Bool → Gathered
 gathered s i free n over =
     record {

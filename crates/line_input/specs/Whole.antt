@@ -17,7 +17,7 @@ pub data Text : Type 0 where
 unfoldable pub fit : ℕ → List ℕ → Text
 fit cap t = cond (leb (length t) cap) (Held t) Over
 
--- each of the texts so
+-- the same for each text
 unfoldable pub fitAll : ℕ → List (List ℕ) → List Text
 fitAll cap [] = []
 fitAll cap (t ∷ ts) = fit cap t ∷ fitAll cap ts
@@ -26,7 +26,8 @@ fitAll cap (t ∷ ts) = fit cap t ∷ fitAll cap ts
 unfoldable pub heldText : List ℕ → ℕ → Bool → Text
 heldText l n over = cond over Over (Held (take n l))
 
--- The octets s were fed to a buffer of cap octets. The lines that LF ended were handed out as ts, and of the one that is still open h is held.
+-- The octets s were fed to a buffer of cap octets. The lines ended by LF were handed out as ts, and h is held of the line
+-- that is still open.
 pub record Fed (cap : ℕ) (s : List ℕ) (ts : List Text) (h : Text) : Type 0 where
   pub ended : List (List ℕ)
   pub open-line : List ℕ

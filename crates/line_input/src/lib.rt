@@ -1,4 +1,4 @@
-// Lines ended by LF, gathered in a lent buffer from octets that arrive in parts of any length.
+// Lines ended by LF, gathered in the caller's buffer from octets that arrive in parts of any length.
 ghost use mathlib.Core.Path.{_≡_};
 ghost use mathlib.Core.Bool.{_||_};
 ghost use lib.Dec.{ltb};
@@ -14,13 +14,13 @@ pub struct Gathered {
     pub len: usize,
     // The line has more octets than the buffer.
     pub over: bool,
-    // Where the part goes on.
+    // Where the rest of the part begins.
     pub next: usize,
     // The line's LF has come.
     pub ended: bool,
 }
 
-// A line was too long before, or fewer octets of it found room than there are.
+// The line was too long before, or fewer octets were stored than it has.
 fn is_over(over: bool, stored: usize, all: usize) -> bool
     ensures { λ r. ⌜ r ≡ (over || ltb stored all) ⌝ }
 {
@@ -30,8 +30,8 @@ fn is_over(over: bool, stored: usize, all: usize) -> bool
     stored < all
 }
 
-// Puts the octets of part from `from` to its first LF, or to its end, behind the len octets that
-// are in line. What finds no room is passed over.
+// Puts the octets of part, from `from` to its first LF or to its end, after the len octets that are in line. What does
+// not fit is skipped.
 pub fn gather(part: &[u8], from: usize, line: &mut [u8], len: usize, over: bool) -> Gathered
     ensures { λ r. ⌜ Gathers (now (part .entry)) from (now (line .entry)) len over r (now (line .exit)) ⌝ }
 {

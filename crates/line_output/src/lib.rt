@@ -1,19 +1,19 @@
-// Output that waits at the front of a lent buffer until it is written.
+// Output that waits at the front of the caller's buffer until it is written.
 ghost use mathlib.Core.Path.{_≡_};
 ghost use Prim.Native.Nat.{_-_, _≤_};
 ghost use lib.ListN.{length};
 use libc::STDERR_FILENO;
 use libc::STDOUT_FILENO;
 
-// What a program has to print. No contract can say what went through a descriptor; the tests do.
+// What a program has to print. Contracts can't describe I/O; tests cover it.
 pub struct Output {
     // How many octets wait.
     pub at: usize,
-    // Whether all that was written has been taken.
+    // Whether every write so far has succeeded.
     pub taken: bool,
 }
 
-// Writes octets to standard output; where they are not taken, says so on standard error.
+// Writes octets to standard output; a failure is reported on standard error.
 fn write(octets: &[u8]) -> bool {
     if io::write_all(STDOUT_FILENO, octets) {
         return true;
@@ -39,7 +39,7 @@ pub fn flush(out: &[u8], output: Output) -> Output
     }
 }
 
-// Writes what waits where fewer than `least` octets are free behind it.
+// Writes what waits if fewer than `least` octets are free after it.
 pub fn make_room(out: &[u8], output: Output, least: usize) -> Output
     ensures { λ r. ⌜ r .at ≤ length (now (out .entry)) - least ⌝ }
 {

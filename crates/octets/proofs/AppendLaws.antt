@@ -9,7 +9,8 @@ use native.Mathlib.Nat.{add-zero}
 use native.Mathlib.Numerals.{add-one, sub-one}
 use native.Mathlib.Omega.{arith}
 use borrow.Author.Tests.{lt-ltb, le-ltb}
-use Rattle.octets.specs.Append.{put, nextOf, appended, Appends, widthFrom, numberText, Tail}
+use Rattle.octets.specs.Append.{put, nextOf, appended, Appends, widthFrom, numberText}
+use Rattle.octets.specs.Private.{Tail}
 use Rattle.octets.specs.Decimal.{lastDigits}
 use Rattle.octets.proofs.CaseLaws.{by-lt}
 use Rattle.octets.proofs.Laws.{next, drop-set-here, put-nil, put-cons, length-put, put-append}
@@ -102,7 +103,7 @@ module _ (l f g xs ys : List ℕ) (at r r′ : ℕ) (p : Appends l at xs r f) (q
         leaves = qg ∙ p .leaves ∙ rw (take-append-le n xs ys h);
       }
 
-  -- two texts, one behind the other
+  -- two texts, one after the other
   pub append-more : Appends l at (xs ++ ys) r′ g
   append-more = by-lt (length xs) (length l - at) _ append-fits append-full
 

@@ -50,7 +50,7 @@ length-put l at vs h = simp (length-append, length-take, length-drop) (omega ari
 append-behind : (a b ys : List ℕ) (n : ℕ) → length a ≡ n → take n (a ++ b) ++ ys ++ drop (n + length ys) (a ++ b) ≡ a ++ ys ++ drop (length ys) b
 append-behind a b ys n h = rw (take-at a b n h, ← drop-drop (length ys) n (a ++ b), drop-at a b n h)
 
--- two texts, one behind the other
+-- two texts, one after the other
 pub put-append : (l xs ys : List ℕ) (at : ℕ) → at + length xs ≤ length l → put (put l at xs) (at + length xs) ys ≡ put l at (xs ++ ys)
 unfolding put
 put-append l xs ys at h =

@@ -1,5 +1,5 @@
--- Appending to a buffer: what fits is written, what finds no room is left out. And a number as decimal text.
-use Prim.Native.Nat.{ℕ, zero, suc, _+_, _-_, _/_, _≤_, min}
+-- Appending to a buffer: what fits is written, the rest is left out. And a number as decimal text.
+use Prim.Native.Nat.{ℕ, zero, suc, _+_, _-_, _/_, min}
 use mathlib.Core.Path.{_≡_}
 use mathlib.Core.List.{List, _++_}
 use mathlib.Core.Bool.{cond}
@@ -32,8 +32,3 @@ widthFrom (suc e) n = cond (ltb n 10) 1 (suc (widthFrom e (n / 10)))
 -- n as decimal text, of at most 20 digits, which hold every number of 64 bits
 unfoldable pub numberText : ℕ → List ℕ
 numberText n = lastDigits (widthFrom 19 n) n
-
--- for the code: s is the end of d, from r on
-pub record Tail (d : List ℕ) (r : ℕ) (s : List ℕ) : Type 0 where
-  pub inside : r ≤ length d
-  pub is : drop r d ≡ s

@@ -10,7 +10,7 @@ use Rattle.octets.specs.declared.Number.the-variants.{Value, Bad}
 unfoldable pub isDigit : ℕ → Bool
 isDigit b = leb (char "0") b && leb b (char "9")
 
--- s has digits alone
+-- s has only digits
 unfoldable pub allDigits : List ℕ → Bool
 allDigits [] = true
 allDigits (b ∷ bs) = isDigit b && allDigits bs
@@ -20,13 +20,13 @@ unfoldable pub valueFrom : ℕ → List ℕ → ℕ
 valueFrom n [] = n
 valueFrom n (b ∷ bs) = valueFrom (n * 10 + (b - char "0")) bs
 
--- one digit, or several of which the first is not '0'
+-- one digit, or several with no leading '0'
 unfoldable pub shortest : List ℕ → Bool
 shortest [] = false
 shortest (b ∷ []) = true
 shortest (b ∷ c ∷ bs) = not (eqb b (char "0"))
 
--- the number after n of the digits of s, where s has digits alone and the number is at most 65535
+-- the number that the digits of s after n's stand for, if s has only digits and the number is at most 65535
 unfoldable pub numberFrom : ℕ → List ℕ → Number
 numberFrom n s = cond (allDigits s && leb (valueFrom n s) 65535) (Value (valueFrom n s)) Bad
 

@@ -14,7 +14,7 @@ isHexDigit b =
     (cond (leb b (char "F")) true
     (leb (char "a") b && leb b (char "f")))))
 
--- a digit's value; 0 for an octet that is no digit
+-- a digit's value, or 0 for an octet that is no digit
 unfoldable pub hexValue : ℕ → ℕ
 hexValue b =
     cond (ltb b (char "0")) 0
@@ -24,12 +24,12 @@ hexValue b =
     (cond (ltb b (char "a")) 0
     (cond (leb b (char "f")) (b - char "a" + 10) 0)))))
 
--- s has digits alone
+-- s has only digits
 unfoldable pub allHex : List ℕ → Bool
 allHex [] = true
 allHex (b ∷ bs) = isHexDigit b && allHex bs
 
--- s has digits alone, and an even number of them
+-- s has only digits, an even number of them
 unfoldable pub isHex : List ℕ → Bool
 isHex s = eqb (length s % 2) 0 && allHex s
 
@@ -39,7 +39,7 @@ hexOctets [] = []
 hexOctets (a ∷ []) = []
 hexOctets (a ∷ b ∷ s) = (hexValue a * 16 + hexValue b) ∷ hexOctets s
 
--- for the code: the value of a digit; 16 for an octet that is none
+-- the answer of `digit`: a digit's value, or 16 for an octet that is no digit
 unfoldable pub digitIn : ℕ → ℕ
 digitIn b = cond (isHexDigit b) (hexValue b) 16
 

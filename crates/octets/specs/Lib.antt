@@ -1,4 +1,4 @@
--- What the contracts of this crate speak of, a file for each subject.
+-- The definitions that the contracts of this crate cite, a file for each subject. `Private` is used only by private functions.
 pub mod Text
 pub mod Split
 pub mod Puts
@@ -7,3 +7,4 @@ pub mod Decimal
 pub mod Hex
 pub mod Spans
 pub mod Words
+pub mod Private

@@ -1,4 +1,4 @@
--- The text that a span stands for. A span outside the text stands for what of it lies inside.
+-- The text that a span stands for. A span that goes past the end of the text stands for the part inside it.
 use Prim.Native.Nat.{ℕ, _+_}
 use mathlib.Core.List.{List}
 use mathlib.Core.Bool.{Bool}

@@ -1,4 +1,4 @@
--- Cutting a list of octets at an octet: what stands before it, the parts between, and where it is found.
+-- Cutting octets at a separator: what is before it, the parts between, and where it is found.
 use Prim.Native.Nat.{ℕ, zero, suc, _+_, _-_, _≤_, max}
 use mathlib.Core.Path.{_≡_}
 use mathlib.Core.List.{List, [], _∷_}
@@ -11,7 +11,7 @@ unfoldable pub has : ℕ → List ℕ → Bool
 has c [] = false
 has c (b ∷ bs) = eqb b c || has c bs
 
--- what stands before the first c of s, all of s where there is none
+-- what is before the first c of s, or all of s if it has none
 unfoldable pub before : ℕ → List ℕ → List ℕ
 before c [] = []
 before c (b ∷ bs) = cond (eqb b c) [] (b ∷ before c bs)
@@ -26,17 +26,17 @@ unfoldable pub splitOn : ℕ → List ℕ → List (List ℕ)
 splitOn c [] = [] ∷ []
 splitOn c (b ∷ bs) = cond (eqb b c) ([] ∷ splitOn c bs) (onFirst b (splitOn c bs))
 
--- the position of the first c of s at `from` or after it, or the end
+-- the position of the first c of s from `from` on, or the end
 unfoldable pub findAt : List ℕ → ℕ → ℕ → ℕ
 findAt s c from = from + length (before c (drop from s))
 
--- r is that position; the bounds follow, and are here for callers
+-- r is that position; the bounds follow from it, and are stated for callers
 pub record Found (s : List ℕ) (c from r : ℕ) : Type 0 where
   pub is : r ≡ findAt s c from
   pub low : from ≤ r
   pub high : r ≤ max from (length s)
 
--- part k of ps, from 0; an empty one where there is none
+-- part k of ps, from 0; an empty one if there is none
 unfoldable pub partAt : ℕ → List (List ℕ) → List ℕ
 partAt k [] = []
 partAt zero (p ∷ ps) = p

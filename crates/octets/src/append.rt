@@ -1,10 +1,11 @@
-// Appending to a lent buffer. What finds no room is left out.
+// Appending to a buffer. What does not fit is left out.
 ghost use mathlib.Core.Path.{_≡_};
 ghost use mathlib.Core.List.{[], _∷_, _++_};
 ghost use mathlib.Core.Option.{some};
 ghost use Prim.Native.Nat.{_+_, _≤_};
 ghost use lib.ListN.{length};
-ghost use Rattle.octets.specs.Append.{put, Appends, numberText, Tail};
+ghost use Rattle.octets.specs.Append.{put, Appends, numberText};
+ghost use Rattle.octets.specs.Private.{Tail};
 ghost use Rattle.octets.specs.Puts.{Puts};
 use crate::Put;
 
@@ -47,7 +48,7 @@ pub fn push_octet(b: u8, out: &mut [u8], at: usize) -> usize
     at
 }
 
-// Puts n's digits at the end of d, the last first. The answer is where they start.
+// Puts n's digits at the end of d, last digit first. The answer is where they start.
 fn put_digits(n: u64, d: &mut [u8]) -> usize
     requires { ⌜ length (now d) ≡ 20 ⌝ }
     ensures { λ r. ⌜ Tail (now (d .exit)) r (numberText n) ⌝ }
@@ -80,7 +81,7 @@ pub fn push_number_then(n: u64, b: u8, out: &mut [u8], at: usize) -> usize
     push_octet(b, out, k)
 }
 
-// Writes src at the front of out, where there is room for all of it.
+// Writes src at the front of out, if there is room for all of it.
 pub fn put_front(src: &[u8], out: &mut [u8]) -> Put
     ensures { λ r. ⌜ Puts (some (now (src .entry))) (now (out .entry)) r (now (out .exit)) ⌝ }
 {

@@ -3,7 +3,7 @@ ghost use mathlib.Core.Path.{_≡_};
 ghost use Rattle.octets.specs.Decimal.{numberFrom, readNumber};
 use crate::Number;
 
-// The number that s's digits stand for, leading zeros or not.
+// The number that s's digits stand for; leading zeros are allowed.
 fn digits(s: &[u8]) -> Number
     ensures { λ r. ⌜ r ≡ numberFrom 0 (now (s .entry)) ⌝ }
 {

@@ -1,4 +1,5 @@
-// What readers and writers of octets share: the parts of a text, appending to a buffer, decimal numbers, hexadecimal text, spans and words.
+// Shared by readers and writers of octets: the parts of a text, appending to a buffer, decimal numbers, hexadecimal
+// text, spans and words.
 pub mod append;
 pub mod decimal;
 pub mod hex;
@@ -6,13 +7,16 @@ pub mod parts;
 pub mod spans;
 pub mod words;
 
+// For C an answer is one number: a count, or this number plus document 01's. No count reaches it.
+pub const REFUSED: usize = 65536;
+
 // A writer's answer: how many octets it put at the front of a buffer, or document 01's number.
 pub enum Put {
     Octets(usize),
     Refused(u8),
 }
 
-// What a text was read as: a number, or none.
+// The number that a text was read as, if it is one.
 pub enum Number {
     Value(u16),
     Bad,

@@ -4,7 +4,7 @@ ghost use Prim.Native.Nat.{_-_};
 ghost use lib.ListN.{length};
 ghost use Rattle.octets.specs.Split.{findAt, Found, splitOn, partAt, separatorsOf};
 
-// The first of the last three positions of s; 0 where it has no more than three. Octets below it can be looked at in fours.
+// The first of the last three positions of s, or 0 if it has at most three. From a position below it four octets can be read.
 pub fn last_three(s: &[u8]) -> usize
     ensures { λ r. ⌜ r ≡ length (now (s .entry)) - 3 ⌝ }
 {
@@ -14,7 +14,7 @@ pub fn last_three(s: &[u8]) -> usize
     s.len() - 3
 }
 
-// A position at `from` or after it with no c of s between, found four octets at a time.
+// A position from `from` on with no c of s in between, found four octets at a time.
 fn pass_fours(s: &[u8], c: u8, from: usize) -> usize
     ensures { λ r. ⌜ findAt (now (s .entry)) c r ≡ findAt (now (s .entry)) c from ⌝ }
 {
@@ -38,7 +38,7 @@ fn pass_fours(s: &[u8], c: u8, from: usize) -> usize
     n
 }
 
-// The position of the first c of s at `from` or after it, or the end.
+// The position of the first c of s from `from` on, or the end.
 pub fn find_from(s: &[u8], c: u8, from: usize) -> usize
     ensures { λ r. ⌜ Found (now (s .entry)) c from r ⌝ }
 {
@@ -52,7 +52,7 @@ pub fn find_from(s: &[u8], c: u8, from: usize) -> usize
     i
 }
 
-// The k-th part of s between its c's, from 0; an empty one where there is none.
+// Part k of s between its c's, from 0; an empty one if there is none.
 pub fn part(s: &[u8], c: u8, k: usize) -> &[u8]
     ensures { λ r. ⌜ now r ≡ partAt k (splitOn c (now (s .entry))) ⌝ }
 {
@@ -71,7 +71,7 @@ pub fn part(s: &[u8], c: u8, k: usize) -> &[u8]
     &s[i..e]
 }
 
-// How many c's are in s: one less than it has parts.
+// How many c's are in s: one less than its parts.
 pub fn separators(s: &[u8], c: u8) -> usize
     ensures { λ r. ⌜ r ≡ separatorsOf c (now (s .entry)) ⌝ }
 {

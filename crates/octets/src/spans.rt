@@ -1,4 +1,4 @@
-// Spans of a text. Every function answers for every span: one that lies outside the text stands for what of it lies inside.
+// Spans of a text. Every span is allowed: one that goes past the end of the text stands for the part inside it.
 ghost use mathlib.Core.Path.{_≡_};
 ghost use lib.ListN.{take, drop};
 ghost use Rattle.octets.specs.Spans.{textOf, inside};
@@ -20,7 +20,7 @@ pub fn text(m: &[u8], sp: Span) -> &[u8]
     &m[at..end]
 }
 
-// What of s stands behind its first n octets.
+// What follows the first n octets of s.
 pub fn after(s: &[u8], n: usize) -> &[u8]
     ensures { λ r. ⌜ now r ≡ drop n (now (s .entry)) ⌝ }
 {
@@ -30,7 +30,7 @@ pub fn after(s: &[u8], n: usize) -> &[u8]
     &s[n..]
 }
 
-// The first n octets of s, all of them where it has no more.
+// The first n octets of s, or all of them if it has fewer.
 pub fn up_to(s: &[u8], n: usize) -> &[u8]
     ensures { λ r. ⌜ now r ≡ take n (now (s .entry)) ⌝ }
 {

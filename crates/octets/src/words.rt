@@ -30,7 +30,7 @@ pub fn equals(w: &[u8], s: &[u8]) -> bool
     false
 }
 
-// s has digits alone.
+// s has only digits.
 fn all_digits(s: &[u8]) -> bool
     ensures { λ r. ⌜ r ≡ allDigits (now (s .entry)) ⌝ }
 {

@@ -1,4 +1,4 @@
--- `decode` meets its contract: each identifier leads to one case of `reading`.
+-- `decode` meets its contract: each identifier leads to one case of `decoding`.
 -- Assumes nothing.
 use Rattle.bat_read.proofs.ReadLaws.{readings}
 use borrow.Author.Needs.{needs}

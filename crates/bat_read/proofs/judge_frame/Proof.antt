@@ -1,4 +1,4 @@
--- `judge_frame` meets its contract: what the contents are read as decides the verdict, and the place at fault lies in contents that are short.
+-- `judge_frame` meets its contract: what the contents are decoded as decides, and the place at fault is inside contents that are short.
 -- Assumes nothing.
 use Rattle.bat_read.proofs.VerdictLaws.{verdicts, index-small}
 use borrow.Author.Needs.{needs}

@@ -1,4 +1,4 @@
--- `lists` meets its contract: whether the diagnostic is listed decides what the verdict adds.
+-- `lists` meets its contract: whether the diagnostic is listed decides what is added.
 -- Assumes nothing.
 use Rattle.bat_read.proofs.ListedLaws.{owning}
 use borrow.Author.Needs.{needs}

@@ -4,8 +4,8 @@ use native.Mathlib.Omega.{arith}
 use Prim.Native.Nat.{_-_, max}
 use mathlib.Core.Path.{_≡_}
 use lib.ListN.{length, drop}
-use Rattle.bat.specs.Meaning.{dataNumber}
-use Rattle.bat_read.specs.Steps.{gravest}
+use Rattle.bat.specs.JudgingMeaning.{dataNumber}
+use Rattle.bat_read.specs.Private.{gravest}
 use Rattle.bat_read.proofs.OutcomeLaws.{outcomes, seen-fits, seen-falls}
 use borrow.Author.Needs.{needs}
 use Rattle.bat_read.proofs.outcome.Statement.{statement}

@@ -40,7 +40,7 @@ use denote.Exit.{yes}
 use Rattle.bat_table.specs.declared.Entry.{Entry}
 use Rattle.bat.specs.declared.Counted.{Counted}
 use Rattle.bat.specs.Framing.{cut}
-use Rattle.bat.specs.Meaning.{countOf}
+use Rattle.bat.specs.FramingMeaning.{countOf}
 use Rattle.bat_table.specs.Table.{countForC, tableAfter}
 use Rattle.bat_table.proofs.Entry as T
 use Rattle.bat.proofs.Counted as K

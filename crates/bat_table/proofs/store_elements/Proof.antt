@@ -56,7 +56,7 @@ use Rattle.bat_table.specs.declared.Entry.{Entry}
 use Rattle.bat_table.specs.declared.Step.{Step}
 use Rattle.bat_table.specs.declared.Plan.{Plan}
 use Rattle.bat_table.specs.Table.{noEntry, tableAfter}
-use Rattle.bat_table.specs.Steps.{planFor, stepAt}
+use Rattle.bat_table.specs.Private.{planFor, stepAt}
 use Rattle.bat_table.proofs.Room.{place-fits}
 use Rattle.bat_table.proofs.FillLaws.{spot, fill, length-fill, stored-fits, filled}
 use Rattle.bat_table.proofs.Entry as T

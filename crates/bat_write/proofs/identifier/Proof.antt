@@ -2,7 +2,7 @@
 -- Assumes nothing.
 use borrow.Author.Needs.{needs}
 use Rattle.octets.proofs.Pick.{picks}
-use Rattle.bat_write.specs.Texts.{identifierIn}
+use Rattle.bat_write.specs.Private.{identifierIn}
 use Rattle.bat_write.proofs.identifier.Statement.{statement}
 use Rattle.bat_write.proofs.identifier.Tie as tie
 

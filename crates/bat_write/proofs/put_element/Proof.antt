@@ -1,4 +1,4 @@
--- `put_element` meets its contract. The length of the contents tells that of the element, by which it is too long, finds no room, or is put.
+-- `put_element` meets its contract. The length of the contents gives that of the element, which is too long, does not fit, or is put.
 -- Assumes nothing.
 use borrow.Author.Needs.{needs}
 use Rattle.bat_write.proofs.PutLaws.{putting}

@@ -1,4 +1,4 @@
--- `write_element` meets its contract: a value whose spans lie inside the source is written, and any other stands for nothing.
+-- `write_element` meets its contract: a value whose spans are inside the source is written, and any other means nothing.
 -- Assumes nothing.
 use Rattle.bat_write.proofs.InsideLaws.{inside-writes, inside-none}
 use borrow.Author.Needs.{needs}

@@ -1,4 +1,4 @@
--- `framing::contents` meets its contract: the text behind the head is what the frame stands for.
+-- `framing::contents` meets its contract: the text after the head is what the frame stands for.
 -- Assumes nothing.
 use Rattle.bat.proofs.FrameLaws.{text-contents}
 use borrow.Author.Needs.{needs}

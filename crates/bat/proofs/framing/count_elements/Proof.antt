@@ -3,7 +3,7 @@
 use Prim.Native.Nat.{_≤_, _-_}
 use mathlib.Core.Path.{_≡_}
 use lib.ListN.{length, drop}
-use Rattle.bat.specs.Meaning.{countIn}
+use Rattle.bat.specs.Private.{countIn}
 use Rattle.bat.specs.Framing.{elements}
 use Rattle.bat.proofs.CountLaws.{counts, counted, counted-zero, places}
 use borrow.Author.Needs.{needs}

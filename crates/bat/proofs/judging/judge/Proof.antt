@@ -1,6 +1,6 @@
 -- `judging::judge` meets its contract: it is put together from the outcome, the notice and the diagnostic.
 -- Assumes nothing.
-use Rattle.bat.specs.Meaning.{judgementIn}
+use Rattle.bat.specs.JudgingMeaning.{judgementIn}
 use Rattle.bat.specs.Judging.{judgement}
 use borrow.Author.Needs.{needs}
 use Rattle.bat.proofs.judging.judge.Statement.{statement}

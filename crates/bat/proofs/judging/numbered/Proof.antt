@@ -1,6 +1,6 @@
 -- `judging::numbered` meets its contract: what is left of four numbers after three tests is the fourth.
 -- Assumes nothing.
-use Rattle.bat.specs.Meaning.{outcomeNumber}
+use Rattle.bat.specs.JudgingMeaning.{outcomeNumber}
 use Rattle.octets.proofs.Pick.{picks, flags}
 use borrow.Author.Needs.{needs}
 use Rattle.bat.proofs.judging.numbered.Statement.{statement}

@@ -1,7 +1,7 @@
 -- `judging::second_choice` meets its contract: the tests are those of `secondChoice`.
 -- Assumes nothing.
 use Rattle.bat.specs.Judging.{secondChoice}
-use Rattle.bat.specs.Meaning.{outcomeNumber}
+use Rattle.bat.specs.JudgingMeaning.{outcomeNumber}
 use Rattle.octets.proofs.Pick.{picks, flags}
 use borrow.Author.Needs.{needs}
 use Rattle.bat.proofs.judging.second_choice.Statement.{statement}

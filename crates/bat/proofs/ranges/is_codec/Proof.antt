@@ -1,4 +1,4 @@
--- `ranges::is_codec` meets its contract: the first octet and those behind it are the codec of the contents.
+-- `ranges::is_codec` meets its contract: the first octet and those after it are the codec of the contents.
 -- Assumes nothing.
 use Rattle.bat.proofs.RangeLaws.{codec-none, codec-some}
 use borrow.Author.Needs.{needs}

@@ -1,7 +1,7 @@
 -- `simple::action` meets its contract: the tests are those of `actionIn`.
 -- Assumes nothing.
 use Rattle.octets.proofs.Pick.{picks, flags, some-is}
-use Rattle.bat.specs.Meaning.{valueInside, valueIn, valueBy, decodingIn}
+use Rattle.bat.specs.ValueMeaning.{valueInside, valueIn, valueBy, decodingIn}
 use Rattle.bat.specs.Values.{actionIn}
 use borrow.Author.Needs.{needs}
 use Rattle.bat_read.proofs.simple.action.Statement.{statement}

@@ -1,4 +1,4 @@
--- `simple::capability` meets its contract: the first marked octet is the last where one less than the length stands before it.
+-- `simple::capability` meets its contract: the first marked octet is the last if one less than the length is before it.
 -- Assumes nothing.
 use Rattle.bat_read.proofs.SimpleLaws.{capabilities}
 use borrow.Author.Needs.{needs}

@@ -1,7 +1,7 @@
 -- `simple::characteristics` meets its contract: the tests are those of `characteristicsIn`.
 -- Assumes nothing.
 use Rattle.octets.proofs.Pick.{picks, flags, some-is}
-use Rattle.bat.specs.Meaning.{valueInside, valueIn, valueBy, decodingIn}
+use Rattle.bat.specs.ValueMeaning.{valueInside, valueIn, valueBy, decodingIn}
 use Rattle.bat.specs.Values.{characteristicsIn}
 use borrow.Author.Needs.{needs}
 use Rattle.bat_read.proofs.simple.characteristics.Statement.{statement}

@@ -1,7 +1,7 @@
 -- `simple::control` meets its contract: the test is that of `controlIn`, and the span stands for all of the contents.
 -- Assumes nothing.
 use Rattle.octets.proofs.Pick.{picks, flags, some-is}
-use Rattle.bat.specs.Meaning.{valueInside, valueIn, valueBy, decodingIn}
+use Rattle.bat.specs.ValueMeaning.{valueInside, valueIn, valueBy, decodingIn}
 use Rattle.bat.specs.Values.{controlIn}
 use borrow.Author.Needs.{needs}
 use Rattle.bat_read.proofs.simple.control.Statement.{statement}

@@ -1,4 +1,4 @@
--- `simple::report` meets its contract: octets are diagnostics exactly where they come in threes.
+-- `simple::report` meets its contract: octets are diagnostics exactly if they come in threes.
 -- Assumes nothing.
 use Rattle.bat_read.proofs.SimpleLaws.{reports}
 use borrow.Author.Needs.{needs}
@@ -17,12 +17,12 @@ returns-2 c = search (reports, needs)
 shared-slice-read-t9 : tie.Need-shared-slice-read-t9
 shared-slice-read-t9 c = search needs
 
-behind-requires : tie.Need-behind-requires
-behind-requires c κs = search needs
+rest-requires : tie.Need-rest-requires
+rest-requires c κs = search needs
 
 returns-3 : tie.Need-returns-3
 returns-3 c = search (reports, needs)
 
 pub report-spec : {M : Type 1} → statement M
 report-spec =
-    tie.close (tie.spec returns sub-if2 returns-2 shared-slice-read-t9 behind-requires returns-3)
+    tie.close (tie.spec returns sub-if2 returns-2 shared-slice-read-t9 rest-requires returns-3)

@@ -1,7 +1,7 @@
 -- `simple::signal_type` meets its contract: the test is that of `typeIn`.
 -- Assumes nothing.
 use Rattle.octets.proofs.Pick.{picks, flags, some-is}
-use Rattle.bat.specs.Meaning.{valueInside, valueIn, valueBy, decodingIn}
+use Rattle.bat.specs.ValueMeaning.{valueInside, valueIn, valueBy, decodingIn}
 use Rattle.bat.specs.Values.{typeIn}
 use borrow.Author.Needs.{needs}
 use Rattle.bat_read.proofs.simple.signal_type.Statement.{statement}

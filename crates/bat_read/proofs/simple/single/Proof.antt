@@ -1,7 +1,7 @@
--- `simple::single` meets its contract: the test is that of `singleIn`, and the span stands for what is behind the organisation.
+-- `simple::single` meets its contract: the test is that of `singleIn`, and the span stands for what follows the organisation.
 -- Assumes nothing.
 use Rattle.octets.proofs.Pick.{picks, flags, some-is}
-use Rattle.bat.specs.Meaning.{valueInside, valueIn, valueBy, decodingIn}
+use Rattle.bat.specs.ValueMeaning.{valueInside, valueIn, valueBy, decodingIn}
 use Rattle.bat.specs.Values.{singleIn}
 use borrow.Author.Needs.{needs}
 use Rattle.bat_read.proofs.simple.single.Statement.{statement}
@@ -13,12 +13,12 @@ is-codec-requires c κs = search needs
 octet-at-requires : tie.Need-octet-at-requires
 octet-at-requires c κs = search needs
 
-behind-requires : tie.Need-behind-requires
-behind-requires c κs = search needs
+rest-requires : tie.Need-rest-requires
+rest-requires c κs = search needs
 
 returns : tie.Need-returns
 unfolding decodingIn valueIn valueInside valueBy singleIn
-returns c = rw (c .behind .ensures .within, c .behind .ensures .is, c .before .octet-at .ensures) (search (some-is, picks, flags, needs))
+returns c = rw (c .rest .ensures .within, c .rest .ensures .is, c .before .octet-at .ensures) (search (some-is, picks, flags, needs))
 
 returns-2 : tie.Need-returns-2
 unfolding decodingIn valueIn valueInside valueBy singleIn
@@ -26,4 +26,4 @@ returns-2 c = search (some-is, picks, flags, needs)
 
 pub single-spec : {M : Type 1} → statement M
 single-spec =
-    tie.close (tie.spec is-codec-requires octet-at-requires behind-requires returns returns-2)
+    tie.close (tie.spec is-codec-requires octet-at-requires rest-requires returns returns-2)

@@ -20,11 +20,11 @@ sub-if2 c = search needs
 returns-2 : tie.Need-returns-2
 returns-2 c = search (units, needs)
 
-add-behind : tie.Need-add-behind
-add-behind c = search needs
+add-rest : tie.Need-add-rest
+add-rest c = search needs
 
-behind-requires : tie.Need-behind-requires
-behind-requires c κs = search needs
+rest-requires : tie.Need-rest-requires
+rest-requires c κs = search needs
 
 returns-3 : tie.Need-returns-3
 returns-3 c = search (units, needs)
@@ -38,6 +38,6 @@ unit-spec =
     cast-n
     sub-if2
     returns-2
-    add-behind
-    behind-requires
+    add-rest
+    rest-requires
     returns-3)

@@ -1,4 +1,4 @@
--- `steps::step_at` meets its contract: an element that is whole at the place ends inside the data; else the place stays.
+-- `steps::step_at` meets its contract: an element that is whole at the place ends inside the data; otherwise the place stays.
 -- Assumes nothing.
 use Rattle.bat_table.proofs.StepLaws.{step-none, step-fits, step-whole}
 use borrow.Author.Needs.{needs}

@@ -1,4 +1,4 @@
--- `contents::push_both` meets its contract. The second text is appended behind the first.
+-- `contents::push_both` meets its contract. The second text is appended after the first.
 -- Assumes nothing.
 use borrow.Author.Needs.{needs}
 use Rattle.octets.proofs.AppendLaws.{append-then}

@@ -1,4 +1,4 @@
--- `contents::push_codec` meets its contract. The text of the span is appended behind the organisation.
+-- `contents::push_codec` meets its contract. The text of the span is appended after the organisation.
 -- Assumes nothing.
 use borrow.Author.Needs.{needs}
 use Rattle.bat_write.proofs.ContentsLaws.{octet-text}

@@ -7,7 +7,7 @@ use lib.ListN.{length, drop}
 use borrow.Author.Needs.{needs}
 use Rattle.octets.specs.Append.{Appends}
 use Rattle.bat.proofs.CountLaws.{place-inside, place-falls}
-use Rattle.bat_write.specs.Texts.{codecsAnew}
+use Rattle.bat_write.specs.Private.{codecsAnew}
 use Rattle.bat_write.proofs.CodecLaws.{listing, contents-small, codecs-more}
 use Rattle.bat_write.proofs.contents.push_codecs.Statement.{statement}
 use Rattle.bat_write.proofs.contents.push_codecs.Tie as tie

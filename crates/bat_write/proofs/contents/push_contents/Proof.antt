@@ -1,10 +1,10 @@
 -- `contents::push_contents` meets its contract. What each arm appends is the contents of the value that its match names.
 -- Assumes nothing.
 use borrow.Author.Needs.{needs}
-use Rattle.bat.specs.Meaning.{valueBy}
+use Rattle.bat.specs.ValueMeaning.{valueBy}
 use Rattle.bat.specs.Writing.{contentsText}
-use Rattle.bat_write.proofs.ContentsLaws.{standing, report-right, unit-right, marked-fits}
-use Rattle.bat_write.specs.Texts.{contentsIn}
+use Rattle.bat_write.proofs.ContentsLaws.{standing, report-right, unit-right, signal-right, marked-fits}
+use Rattle.bat_write.specs.Private.{contentsIn}
 use Rattle.bat_write.proofs.contents.push_contents.Statement.{statement}
 use Rattle.bat_write.proofs.contents.push_contents.Tie as tie
 
@@ -96,7 +96,7 @@ enum-known-value-11 : tie.Need-enum-known-value-11
 enum-known-value-11 c = search needs
 
 push-signal-requires : tie.Need-push-signal-requires
-push-signal-requires c κs = search needs
+push-signal-requires c κs = search (signal-right, needs)
 
 enum-known-value-12 : tie.Need-enum-known-value-12
 enum-known-value-12 c = search needs

@@ -1,4 +1,4 @@
--- `contents::push_lasting` meets its contract. Nothing is appended for no duration, and else the element of its two octets.
+-- `contents::push_lasting` meets its contract. Without a duration nothing is appended, otherwise the element of its two octets.
 -- Assumes nothing.
 use borrow.Author.Needs.{needs}
 use Rattle.bat_write.proofs.ContentsLaws.{lasting-none, lasting-some}

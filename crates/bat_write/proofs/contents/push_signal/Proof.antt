@@ -1,7 +1,7 @@
--- `contents::push_signal` meets its contract. The duration is appended behind the element of the type.
+-- `contents::push_signal` meets its contract. The duration is appended after the element of the type.
 -- Assumes nothing.
 use borrow.Author.Needs.{needs}
-use Rattle.bat_write.proofs.ContentsLaws.{signal-then}
+use Rattle.bat_write.proofs.ContentsLaws.{signal-lasts, signal-then}
 use Rattle.bat_write.proofs.contents.push_signal.Statement.{statement}
 use Rattle.bat_write.proofs.contents.push_signal.Tie as tie
 
@@ -12,7 +12,7 @@ push-element-requires : tie.Need-push-element-requires
 push-element-requires c κs = search needs
 
 push-lasting-requires : tie.Need-push-lasting-requires
-push-lasting-requires c κs = search needs
+push-lasting-requires c κs = search (signal-lasts, needs)
 
 same-length : tie.Need-same-length
 same-length c = search needs

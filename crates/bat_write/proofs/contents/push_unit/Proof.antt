@@ -1,4 +1,4 @@
--- `contents::push_unit` meets its contract. Both ids are appended behind the length.
+-- `contents::push_unit` meets its contract. Both ids are appended after the length.
 -- Assumes nothing.
 use borrow.Author.Needs.{needs}
 use Rattle.octets.proofs.AppendLaws.{octet-then}

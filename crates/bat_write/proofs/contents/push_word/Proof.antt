@@ -1,4 +1,4 @@
--- `contents::push_word` meets its contract. The low eight bits are appended behind the high ones.
+-- `contents::push_word` meets its contract. The low eight bits are appended after the high ones.
 -- Assumes nothing.
 use borrow.Author.Needs.{needs}
 use Rattle.octets.proofs.AppendLaws.{octet-then}

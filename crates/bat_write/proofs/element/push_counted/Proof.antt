@@ -1,4 +1,4 @@
--- `element::push_counted` meets its contract. The contents are appended behind the compatibility octet.
+-- `element::push_counted` meets its contract. The contents are appended after the compatibility octet.
 -- Assumes nothing.
 use borrow.Author.Needs.{needs}
 use Rattle.octets.proofs.AppendLaws.{octet-then}

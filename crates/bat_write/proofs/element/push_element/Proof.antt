@@ -1,4 +1,4 @@
--- `element::push_element` meets its contract. What the length counts is appended behind the length.
+-- `element::push_element` meets its contract. What the length counts is appended after the length.
 -- Assumes nothing.
 use borrow.Author.Needs.{needs}
 use Rattle.bat_write.proofs.ElementLaws.{element-then}

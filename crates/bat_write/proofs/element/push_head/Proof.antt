@@ -1,4 +1,4 @@
--- `element::push_head` meets its contract. The length is appended behind the identifier.
+-- `element::push_head` meets its contract. The length is appended after the identifier.
 -- Assumes nothing.
 use borrow.Author.Needs.{needs}
 use Rattle.octets.proofs.AppendLaws.{octet-then}

@@ -1,4 +1,4 @@
--- `element::push_size` meets its contract. A length below 128 is one octet, and of any other the low seven bits come in front of the high ones.
+-- `element::push_size` meets its contract. A length below 128 is one octet, and of any other the low seven bits come before the high ones.
 -- Assumes nothing.
 use borrow.Author.Needs.{needs}
 use Rattle.bat_write.proofs.ElementLaws.{size-one, size-two}

@@ -2,7 +2,7 @@
 -- Assumes nothing.
 use borrow.Author.Needs.{needs}
 use Rattle.octets.proofs.Pick.{picks}
-use Rattle.bat_write.specs.Texts.{elementLength}
+use Rattle.bat_write.specs.Private.{elementLength}
 use Rattle.bat_write.proofs.element.whole_length.Statement.{statement}
 use Rattle.bat_write.proofs.element.whole_length.Tie as tie
 

@@ -1,6 +1,6 @@
 -- `ranges::all_inside` meets its contract: what each arm tests are the spans of the value that its match names.
 -- Assumes nothing.
-use Rattle.bat.specs.Meaning.{valueInside}
+use Rattle.bat.specs.ValueMeaning.{valueInside}
 use Rattle.bat_write.proofs.InsideLaws.{inside-of}
 use borrow.Author.Needs.{needs}
 use Rattle.bat_write.proofs.ranges.all_inside.Statement.{statement}

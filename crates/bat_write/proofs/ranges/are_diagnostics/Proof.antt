@@ -1,4 +1,4 @@
--- `ranges::are_diagnostics` meets its contract. Octets are diagnostics exactly where they come in threes.
+-- `ranges::are_diagnostics` meets its contract. Octets are diagnostics exactly if they come in threes.
 -- Assumes nothing.
 use borrow.Author.Needs.{needs}
 use Rattle.bat_write.proofs.DiagnosticLaws.{threes}

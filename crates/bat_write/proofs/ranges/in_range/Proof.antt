@@ -1,10 +1,10 @@
 -- `ranges::in_range` meets its contract. What each arm tests is the range of the value that its match names.
 -- Assumes nothing.
 use borrow.Author.Needs.{needs}
-use Rattle.bat.specs.Meaning.{valueBy}
+use Rattle.bat.specs.ValueMeaning.{valueBy}
 use Rattle.bat.specs.Writing.{valueInRange}
 use Rattle.bat_write.proofs.RangeLaws.{ranging}
-use Rattle.bat_write.specs.Texts.{valueInRangeIn}
+use Rattle.bat_write.specs.Private.{valueInRangeIn}
 use Rattle.bat_write.proofs.ranges.in_range.Statement.{statement}
 use Rattle.bat_write.proofs.ranges.in_range.Tie as tie
 
@@ -83,8 +83,8 @@ are-unit-requires c κs = search needs
 enum-known-value-10 : tie.Need-enum-known-value-10
 enum-known-value-10 c = search needs
 
-is-signal-requires : tie.Need-is-signal-requires
-is-signal-requires c κs = search needs
+are-signal-requires : tie.Need-are-signal-requires
+are-signal-requires c κs = search needs
 
 enum-told-2 : tie.Need-enum-told-2
 enum-told-2 c = search needs
@@ -101,8 +101,8 @@ are-indicators-requires c κs = search needs
 enum-known-value-12 : tie.Need-enum-known-value-12
 enum-known-value-12 c = search needs
 
-is-signal-requires-2 : tie.Need-is-signal-requires-2
-is-signal-requires-2 c κs = search needs
+is-signal-requires : tie.Need-is-signal-requires
+is-signal-requires c κs = search needs
 
 enum-told-3 : tie.Need-enum-told-3
 enum-told-3 c = search needs
@@ -196,13 +196,13 @@ in-range-spec =
     text-requires-7
     are-unit-requires
     enum-known-value-10
-    is-signal-requires
+    are-signal-requires
     enum-told-2
     enum-known-value-11
     text-requires-8
     are-indicators-requires
     enum-known-value-12
-    is-signal-requires-2
+    is-signal-requires
     enum-told-3
     returns
     returns-2

@@ -1,4 +1,4 @@
--- `append::push_number_then` meets its contract. The octet is appended behind the number.
+-- `append::push_number_then` meets its contract. The octet is appended after the number.
 -- Assumes nothing.
 use borrow.Author.Needs.{needs}
 use Rattle.octets.proofs.AppendLaws.{append-then}

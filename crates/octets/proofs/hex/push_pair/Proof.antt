@@ -1,4 +1,4 @@
--- `hex::push_pair` meets its contract. The low digit is appended behind the high one.
+-- `hex::push_pair` meets its contract. The low digit is appended after the high one.
 -- Assumes nothing.
 use borrow.Author.Needs.{needs}
 use Rattle.octets.proofs.HexLaws.{hex-pair}
