@@ -1,4 +1,4 @@
--- Laws of `beforeGap` and `hasGap`: the two octets at a position say whether "::" starts there, and what stands behind them is searched in the same way.
+-- Laws of `beforeGap` and `hasGap`: the two octets at a position say whether "::" starts there, and what comes after them is searched in the same way.
 -- Assumes nothing.
 use Prim.Native.Nat.{ℕ, suc, _+_, _-_, _≤_, _<_}
 use mathlib.Core.Path.{_≡_, refl, sym, ap, _∙_}

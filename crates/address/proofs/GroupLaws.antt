@@ -1,4 +1,4 @@
--- Laws of `readGroup`: the digits that are left, behind the number of those before them, give the same group at each turn; four digits stay below 65536.
+-- Laws of `readGroup`: the digits that are left, after the number of those before them, give the same group at each step; four digits stay below 65536.
 -- Assumes nothing.
 use Prim.Native.Nat.{ℕ, _+_, _*_, _^_, _≤_, _<_}
 use mir.Val.{Fits}
@@ -19,10 +19,10 @@ use Rattle.octets.proofs.Laws.{next}
 use Rattle.octets.proofs.HexLaws.{value-low, none-digit, some-digit}
 use Rattle.address.specs.Parts.{inBase}
 use Rattle.address.specs.Ipv6.{isGroup, groupValue}
-use Rattle.address.specs.Steps.{readGroup}
+use Rattle.address.specs.Private.{readGroup}
 use Rattle.address.proofs.PartLaws.{Below, none, one, next-below, base-below}
 
--- the number after n of the digits of s, where s has digits alone
+-- the number after n of the digits of s, where s has only digits
 unfoldable pub digitsFrom : ℕ → List ℕ → Number
 digitsFrom n s = cond (allHex s) (Value (inBase 16 n (map hexValue s))) Bad
 

@@ -8,7 +8,7 @@ use native.Mathlib.Nat.{pow-le-pow-right, mod-lt, div-add-mod', mul-add-div-righ
 use native.Mathlib.Omega.{arith}
 use Rattle.address.specs.declared.ipv6.Halves.{Halves}
 use Rattle.address.specs.Parts.{inBase}
-use Rattle.address.specs.Steps.{pushed, pushAll}
+use Rattle.address.specs.Private.{pushed, pushAll}
 use Rattle.address.proofs.PartLaws.{Below, one, next-below}
 
 unfoldable pub halvesOf : ℕ → Halves

@@ -1,4 +1,4 @@
--- Laws of reading IPv4: the digits of a part are read up to the dot behind it, which is where `splitOn` cuts; each part that is read leaves one fewer to come.
+-- Laws of reading IPv4: the digits of a part are read up to the dot after it, which is where `splitOn` cuts; each part that is read leaves one fewer to come.
 -- Assumes nothing.
 use Prim.Native.Nat.{ℕ, suc, _+_, _-_, _*_, _≤_, _<_}
 use mathlib.Core.Path.{_≡_, refl, sym, ap, _∙_}
@@ -24,7 +24,7 @@ use Rattle.address.specs.declared.ipv4.Part.the-variants.{Octet, NoOctet
 use Rattle.address.specs.Kinds.{kind4}
 use Rattle.address.specs.Parts.{allParts, inBase}
 use Rattle.address.specs.Ipv4.{isOctet, octetValue, isDotted, dottedValue, readV4}
-use Rattle.address.specs.Steps.{octetTo, digitsAt, octetAt}
+use Rattle.address.specs.Private.{octetTo, digitsAt, octetAt}
 
 -- ---- a number to 255
 octet-low : (e n : ℕ) → n ≤ 255 → octetTo e (numberFrom n []) ≡ Octet n e
@@ -175,7 +175,7 @@ octets-end : (n : ℕ) → octetsFrom 0 n [] ≡ kind4 n
 unfolding octetsFrom allParts inBase
 octets-end n = refl
 
--- One part: y is what `read_part` answered at i, and k parts stand behind it; x is the answer.
+-- One part: y is what `read_part` answered at i, and k parts come after it; x is the answer.
 module _ (s : List ℕ) (i k n : ℕ) (x : Parsed) (inv : octetsFrom (suc k) n (splitOn 46 (drop i s)) ≡ x) (y : Part) (r : y ≡ octetAt s i) where
   read-as : (z : Part) → y ≡ z → octetTo (findAt s 46 i) (readNumber (before 46 (drop i s))) ≡ z
   unfolding octetAt

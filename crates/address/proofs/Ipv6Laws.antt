@@ -16,7 +16,7 @@ use Rattle.address.specs.declared.ipv6.GapSide.the-variants.{Groups, NoS
 use Rattle.address.specs.Kinds.{kind6}
 use Rattle.address.specs.Parts.{allParts, inBase}
 use Rattle.address.specs.Ipv6.{isGroup, groupValue, partsOf, kindOfGroups, full, beforeGap, afterGap, filled, gapped, readV6}
-use Rattle.address.specs.Steps.{pushAll, sideFrom}
+use Rattle.address.specs.Private.{pushAll, sideFrom}
 use Rattle.address.proofs.GapLaws.{gap-room, take-gap, has-gap, no-gap}
 use Rattle.address.proofs.SideLaws.{told-groups, told-none}
 use Rattle.address.proofs.PartLaws.{Below, below-append, below-zeros, below-values}

@@ -60,7 +60,7 @@ unfolding joined partsOf
 parts-joined [] = refl
 parts-joined (g ∷ gs) = parts-some (joined 58 groupText (g ∷ gs)) (joined-some (g ∷ gs) (omega arith)) ∙ split-joined 58 groupText no-colon g gs
 
--- ---- "::" behind groups
+-- ---- "::" after groups
 skip-one : (x : ℕ) (bs : List ℕ) → (x ≡ 58 → ⊥) → beforeGap (x ∷ bs) ≡ x ∷ beforeGap bs
 unfolding beforeGap
 skip-one x [] h = refl

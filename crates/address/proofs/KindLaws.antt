@@ -17,7 +17,7 @@ unicast-four a n t e p = rw e p
 pub unicast-six : (a : Address) (high low : ℕ) (t : Bool) → a ≡ V6 high low → t ≡ isUnicast (V6 high low) → t ≡ isUnicast a
 unicast-six a high low t e p = rw e p
 
--- what is read where a test holds, and else not at all
+-- what is read where a test holds, and otherwise not at all
 pub cond-told : (t : Bool) (x : Parsed) (a : Address) → cond t x Unreadable ≡ Unicast a → (t ≡ true) × (x ≡ Unicast a)
 cond-told true x a e = (refl, e)
 cond-told false x a e = let z : _≡_ {A = ℕ} 0 1 = cc in absurd (omega arith)

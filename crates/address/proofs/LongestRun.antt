@@ -11,7 +11,7 @@ use Rattle.octets.proofs.CaseLaws.{by-lt}
 use Rattle.address.specs.declared.write.Run.{Run}
 use Rattle.address.specs.Canonical.{zeros, better, longestFrom, longestRun}
 
--- x is r, or a longer run of gs, whose first group is number i; none of gs is longer, and none as long stands before it
+-- x is r, or a longer run of gs, whose first group is number i; none of gs is longer, and none as long comes before it
 record Most (r : Run) (i : ℕ) (gs : List ℕ) (x : Run) : Type 0 where
   more : r .len ≤ x .len
   same : x .len ≡ r .len → x .start ≡ r .start
@@ -72,7 +72,7 @@ unfolding zeros
 zeros-replicate zero ys = omega arith
 zeros-replicate (suc n) ys = let h = zeros-replicate n ys in omega arith
 
--- a run of n zeros in gs is no longer than the one chosen, and where it is as long it does not stand before it
+-- a run of n zeros in gs is no longer than the one chosen, and where it is as long it does not come before it
 pub longest-run : (gs xs ys : List ℕ) (n : ℕ) → gs ≡ xs ++ (replicate n 0 ++ ys)
     → (n ≤ longestRun gs .len) × (n ≡ longestRun gs .len → longestRun gs .start ≤ length xs)
 unfolding longestRun

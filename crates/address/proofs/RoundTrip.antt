@@ -91,7 +91,7 @@ four-more : (m n a a′ b b′ c c′ d′ : ℕ) → a′ ≡ a → a * 65536 +
     → (((m * 65536 + a′) * 65536 + b′) * 65536 + c′) * 65536 + d′ ≡ m * 2 ^ 64 + n
 four-more m n a a′ b b′ c c′ d′ p q r s = omega arith
 
--- the four groups of a half, behind those of m
+-- the four groups of a half, after those of m
 half-value : (m n : ℕ) → n < 2 ^ 64
     → (((m * 65536 + n / 2 ^ 48 % 65536) * 65536 + n / 2 ^ 32 % 65536) * 65536 + n / 65536 % 65536) * 65536 + n % 65536 ≡ m * 2 ^ 64 + n
 half-value m n h =

@@ -14,7 +14,7 @@ use Rattle.octets.proofs.CaseLaws.{by-eq}
 use Rattle.octets.proofs.Laws.{next}
 use Rattle.address.specs.declared.write.Run.{Run}
 use Rattle.address.specs.Canonical.{zeros, better, longestFrom, longestRun}
-use Rattle.address.specs.Steps.{Longest}
+use Rattle.address.specs.Private.{Longest}
 
 zeros-none : zeros [] ≡ 0
 unfolding zeros

@@ -1,4 +1,4 @@
--- Laws of `sideFrom` and `pushAll`: the groups that are left, behind those shifted in, give the same side at each turn.
+-- Laws of `sideFrom` and `pushAll`: the groups that are left, after those shifted in, give the same side at each step.
 -- Assumes nothing.
 use Prim.Native.Nat.{ℕ, zero, suc, _+_, _-_, _≤_, _<_}
 use mathlib.Core.Path.{_≡_, refl, sym, ap, _∙_}
@@ -18,7 +18,7 @@ use Rattle.address.specs.declared.ipv6.GapSide.{GapSide}
 use Rattle.address.specs.declared.ipv6.GapSide.the-variants.{Groups, NoSide}
 use Rattle.address.specs.Parts.{allParts}
 use Rattle.address.specs.Ipv6.{isGroup, groupValue, partsOf}
-use Rattle.address.specs.Steps.{readGroup, pushed, pushAll, sideFrom}
+use Rattle.address.specs.Private.{readGroup, pushed, pushAll, sideFrom}
 
 -- `push_zeros`: k zeros are left; x is the answer
 pub zeros-turn : (a b x : Halves) (k : ℕ) → pushAll a (replicate k 0) ≡ x → 0 < k → b ≡ pushed a 0 → pushAll b (replicate (k - 1) 0) ≡ x

@@ -1,4 +1,4 @@
--- The texts of numbers: digits alone, so no separator is among them, and read as the number that they were written for.
+-- The texts of numbers: only digits, so no separator is among them, and read as the number that they were written for.
 -- Assumes nothing.
 use Prim.Native.Nat.{ℕ, zero, suc, _+_, _-_, _*_, _/_, _%_, _^_, _<_}
 use mathlib.Core.Path.{_≡_, refl, sym, ap, _∙_}

@@ -1,4 +1,4 @@
--- Laws of writing: an address is appended as its parts are, one behind the other.
+-- Laws of writing: an address is appended as its parts are, one after the other.
 -- Assumes nothing.
 use Prim.Native.Nat.{ℕ, zero, suc, _+_, _-_, _/_, _%_, _≤_, _<_}
 use mathlib.Core.Path.{_≡_, refl, sym, ap, _∙_}
@@ -17,7 +17,7 @@ use Rattle.address.specs.declared.Address.{Address}
 use Rattle.address.specs.declared.Address.the-variants.{V4, V6}
 use Rattle.address.specs.declared.write.Run.{Run}
 use Rattle.address.specs.Canonical.{eachAfter, joined, lowDigit, lastHex, hexWidth, groupText, longestRun, shortened, ipv4Text, ipv6Text, addressText}
-use Rattle.address.specs.Steps.{HexWidth, Longest}
+use Rattle.address.specs.Private.{HexWidth, Longest}
 
 -- ---- a group
 width-bounds : (g : ℕ) → (1 ≤ hexWidth g) × (hexWidth g ≤ 4)
@@ -73,7 +73,7 @@ pub each-start : (gs l : List ℕ) (at : ℕ) → Appends l at (eachAfter 58 gro
 unfolding eachAfter
 each-start gs l at = appends-nil l at
 
--- j groups are appended, each behind a colon, and the buffer has l. The call was `push_each(gs, l₀, at)`.
+-- j groups are appended, each after a colon, and the buffer has l. The call was `push_each(gs, l₀, at)`.
 module _ (gs l₀ l : List ℕ) (at j k : ℕ) (inv : Appends l₀ at (eachAfter 58 groupText (take j gs)) k l) where
   pub each-turn : (f : List ℕ) (r : ℕ) → j < length gs → Appends l k (58 ∷ groupText (getD gs j 0)) r f → Appends l₀ at (eachAfter 58 groupText (take (j + 1) gs)) r f
   each-turn f r h u =

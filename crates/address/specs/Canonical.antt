@@ -12,7 +12,7 @@ use Rattle.address.specs.declared.Address.the-variants.{V4, V6}
 use Rattle.address.specs.declared.write.Run.{Run}
 
 -- ---- numbers with a separator
--- the texts f g of the numbers gs, each behind a c
+-- the texts f g of the numbers gs, each after a c
 unfoldable pub eachAfter : ℕ → (ℕ → List ℕ) → List ℕ → List ℕ
 eachAfter c f [] = []
 eachAfter c f (g ∷ gs) = c ∷ (f g ++ eachAfter c f gs)

@@ -1,5 +1,5 @@
 -- Document 01, "Message, version 1", the paragraph on addresses, after RFC 4291, 2.2: the text of an IPv6 address is eight groups
--- of hexadecimal digits with colons between them, and one "::" can stand for one group of zeros or more. Stricter than RFC 4291:
+-- of hexadecimal digits with colons between them, and one "::" can stand for one or more groups of zeros. Stricter than RFC 4291:
 -- no group is written as decimal numbers.
 use Prim.Native.Nat.{ℕ, _+_, _-_, _/_, _%_, _^_}
 use mathlib.Core.List.{List, [], _∷_, _++_, map}
@@ -22,7 +22,7 @@ isGroup p = leb 1 (length p) && (leb (length p) 4 && allHex p)
 unfoldable pub groupValue : List ℕ → ℕ
 groupValue p = inBase 16 0 (map hexValue p)
 
--- the texts of the groups on one side of a "::", or of all: none where it is empty, else those between the colons
+-- the texts of the groups on one side of a "::", or of all groups: the parts between the colons, none if the text is empty
 unfoldable pub partsOf : List ℕ → List (List ℕ)
 partsOf [] = []
 partsOf (b ∷ bs) = splitOn (char ":") (b ∷ bs)
@@ -36,20 +36,20 @@ unfoldable pub full : List (List ℕ) → Parsed
 full ps = cond (allParts isGroup ps && eqb (length ps) 8) (kindOfGroups (map groupValue ps)) Unreadable
 
 -- ---- with "::"
--- what stands before the first "::" of s, all of s where there is none
+-- what comes before the first "::" of s; all of s if there is none
 unfoldable pub beforeGap : List ℕ → List ℕ
 beforeGap [] = []
 beforeGap (b ∷ []) = b ∷ []
 beforeGap (b ∷ c ∷ bs) = cond (eqb b (char ":") && eqb c (char ":")) [] (b ∷ beforeGap (c ∷ bs))
 
--- what stands behind it
+-- what comes after it
 unfoldable pub afterGap : List ℕ → List ℕ
 afterGap s = drop (length (beforeGap s) + 2) s
 
 unfoldable pub hasGap : List ℕ → Bool
 hasGap s = ltb (length (beforeGap s)) (length s)
 
--- the groups before and behind it, and zeros between them up to eight
+-- the groups before and after it, with zeros between them to make eight
 unfoldable pub filled : List (List ℕ) → List (List ℕ) → List ℕ
 filled ls rs = map groupValue ls ++ (replicate (8 - (length ls + length rs)) 0 ++ map groupValue rs)
 

@@ -2,6 +2,7 @@
 -- an IPv4 address one number and an IPv6 address its two halves of 64 bits.
 use Prim.Native.Nat.{ℕ, _/_, _^_}
 use mathlib.Core.Bool.{Bool, not, _&&_, _||_, cond}
+use mathlib.Core.Option.{Option, none}
 use lib.Dec.{leb, eqb}
 use Rattle.address.specs.declared.Address.{Address}
 use Rattle.address.specs.declared.Address.the-variants.{V4, V6}
@@ -25,3 +26,7 @@ kind6 high low = cond (isUnicast (V6 high low)) (Unicast (V6 high low)) Unreadab
 unfoldable pub onParsed : {X : Type 0} → Parsed → (Address → X) → X → X
 onParsed (Unicast a) go bad = go a
 onParsed Unreadable go bad = bad
+
+-- a step of a reading (octets, `Chain`): the rest, given the address that was read
+abbrev pub unicast : {X : Type 0} → Parsed → (Address → Option X) → Option X
+unicast p rest = onParsed p rest none

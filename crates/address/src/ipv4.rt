@@ -2,7 +2,7 @@
 ghost use mathlib.Core.Path.{_≡_};
 ghost use Rattle.address.specs.Kinds.{kind4};
 ghost use Rattle.address.specs.Ipv4.{readV4};
-ghost use Rattle.address.specs.Steps.{digitsAt, octetAt};
+ghost use Rattle.address.specs.Private.{digitsAt, octetAt};
 use crate::Address;
 use crate::Parsed;
 use crate::is_unicast;

@@ -6,7 +6,7 @@ ghost use lib.ListN.{length, replicate};
 ghost use Rattle.octets.specs.Text.{char};
 ghost use Rattle.address.specs.Kinds.{kind6};
 ghost use Rattle.address.specs.Ipv6.{beforeGap, partsOf, full, gapped, readV6};
-ghost use Rattle.address.specs.Steps.{readGroup, pushed, pushAll, sideFrom};
+ghost use Rattle.address.specs.Private.{readGroup, pushed, pushAll, sideFrom};
 use crate::Address;
 use crate::POWER_48;
 use crate::Parsed;
@@ -150,7 +150,8 @@ fn read_full(s: &[u8]) -> Parsed
     kind(halves)
 }
 
-// Reads the groups before and behind a "::". Those behind are read once to be counted, and once more behind the zeros.
+// Reads the groups before and after a "::". Those after it are read twice: to count them, and then to shift them in after the
+// zeros.
 fn read_gapped(left: &[u8], right: &[u8]) -> Parsed
     ensures { λ r. ⌜ r ≡ gapped (partsOf (now (left .entry))) (partsOf (now (right .entry))) ⌝ }
 {

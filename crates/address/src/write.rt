@@ -6,7 +6,7 @@ ghost use lib.ListN.{drop};
 ghost use Rattle.octets.specs.Text.{ascii, char};
 ghost use Rattle.octets.specs.Append.{Appends, numberText};
 ghost use Rattle.address.specs.Canonical.{lowDigit, groupText, eachAfter, joined, zeros, better, longestRun, shortened, ipv4Text, ipv6Text, addressText};
-ghost use Rattle.address.specs.Steps.{HexWidth, Longest};
+ghost use Rattle.address.specs.Private.{HexWidth, Longest};
 use crate::Address;
 use crate::POWER_24;
 use crate::POWER_32;
@@ -67,21 +67,21 @@ fn push_group(g: u16, out: &mut [u8], at: usize) -> usize
 }
 
 // Appends a colon and a group.
-fn push_behind(g: u16, out: &mut [u8], at: usize) -> usize
+fn push_colon_group(g: u16, out: &mut [u8], at: usize) -> usize
     ensures { λ r. ⌜ Appends (now (out .entry)) at (char ":" ∷ groupText g) r (now (out .exit)) ⌝ }
 {
     let k = push_octet(b':', out, at);
     push_group(g, out, k)
 }
 
-// Appends the groups, each behind a colon.
+// Appends the groups, each after a colon.
 fn push_each(gs: &[u16], out: &mut [u8], at: usize) -> usize
     ensures { λ r. ⌜ Appends (now (out .entry)) at (eachAfter (char ":") groupText (now (gs .entry))) r (now (out .exit)) ⌝ }
 {
     let mut j = 0;
     let mut k = at;
     while j < gs.len() {
-        k = push_behind(gs[j], out, k);
+        k = push_colon_group(gs[j], out, k);
         j += 1;
     }
     k
@@ -139,7 +139,7 @@ fn longest(gs: &[u16]) -> Run
     r
 }
 
-// Appends "::" and the groups behind it.
+// Appends "::" and the groups after it.
 fn push_gap(gs: &[u16], out: &mut [u8], at: usize) -> usize
     ensures { λ r. ⌜ Appends (now (out .entry)) at (ascii "::" ++ joined (char ":") groupText (now (gs .entry))) r (now (out .exit)) ⌝ }
 {
@@ -183,7 +183,7 @@ fn push_ipv6(high: u64, low: u64, out: &mut [u8], at: usize) -> usize
 fn push_two(a: u8, b: u8, out: &mut [u8], at: usize) -> usize
     ensures { λ r. ⌜ Appends (now (out .entry)) at (numberText a ++ (char "." ∷ numberText b)) r (now (out .exit)) ⌝ }
 {
-    let k = push_number_then(a as u64, 46, out, at);
+    let k = push_number_then(a as u64, b'.', out, at);
     push_number(b as u64, out, k)
 }
 

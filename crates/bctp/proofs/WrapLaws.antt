@@ -1,4 +1,4 @@
--- Laws of a packet around a message: the message's writer is lent what stands behind the two octets, so what it answers and leaves there tells the whole.
+-- Laws of a packet around a message: the message's writer is lent what comes after the two octets, so what it answers and leaves there tells the whole.
 -- Assumes nothing.
 use Prim.Native.Nat.{ℕ, _+_, _-_, _≤_, _<_}
 use mathlib.Core.Path.{_≡_, refl, sym, ap, _∙_}
@@ -16,7 +16,7 @@ use Rattle.octets.proofs.CaseLaws.{by-lt}
 use Rattle.octets.proofs.Laws.{tail-is}
 use Rattle.octets.proofs.PutsLaws.{puts-none, puts-short, puts-no, puts-some}
 use Rattle.bctp.specs.Packet.{versionIndicator, protocolIndicator, packetText}
-use Rattle.bctp.specs.Meaning.{withoutRoom, Indicated}
+use Rattle.bctp.specs.Private.{withoutRoom, Indicated}
 
 -- ---- what a refusal says
 refused-none : (l : List ℕ) (r : Put) (g : List ℕ) → Puts none l r g → (r ≡ Refused 5) × (g ≡ l)
@@ -99,7 +99,7 @@ module _ (l : List ℕ) (short : length l < 2) where
       let z : x ≡ Refused 4 = e ∙ q in
       rw (z, s, put-same (length l) (length l - length l) l) (puts-short (packetText t) l (omega (arith, packet-length t)))
 
--- ---- room for them: the writer is lent all behind
+-- ---- room for them: the writer is lent all after
 module _ (l : List ℕ) (long : 2 ≤ length l) where
   abbrev behind : List ℕ
   behind = midOf 2 (length l - 2) l

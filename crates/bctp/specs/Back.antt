@@ -1,4 +1,4 @@
--- What it is that a message is read back from a packet that `write_packet` wrote.
+-- What it means that a message is read back from a packet that `write_packet` wrote.
 use Prim.Native.Nat.{ℕ}
 use mathlib.Core.Path.{_≡_}
 use mathlib.Core.List.{List}

@@ -1,13 +1,11 @@
--- What `Packet` stands for: the message is a part of the packet, the reply the front of the buffer.
-use Prim.Native.Nat.{ℕ, _+_}
+-- What `Packet` stands for: the message is the packet from its third octet on, the reply the first two octets of the buffer.
+use Prim.Native.Nat.{ℕ}
 use mathlib.Core.Path.{_≡_}
 use mathlib.Core.List.{List, _++_}
 use lib.ListN.{length, take, drop}
-use Rattle.octets.specs.declared.Put.{Put}
-use Rattle.octets.specs.declared.Put.the-variants.{Octets, Refused as RefusedPut}
 use Rattle.bctp.specs.declared.Packet.{Packet}
 use Rattle.bctp.specs.declared.Packet.the-variants as answer
-use Rattle.bctp.specs.Packet.{Opened, refused, tunnelNotice, tunnelReply, tunnelMessage, withRoom, packetText}
+use Rattle.bctp.specs.Packet.{Opened, refused, tunnelNotice, tunnelReply, tunnelMessage, withRoom}
 
 -- document 01's number and values for each answer; p is the packet, and f the buffer after the call
 unfoldable pub openedIn : List ℕ → List ℕ → Packet → Opened
@@ -16,25 +14,14 @@ openedIn p f answer.Notice = tunnelNotice
 openedIn p f answer.Reply = tunnelReply (take 2 f)
 openedIn p f answer.Message = tunnelMessage (drop 2 p)
 
--- what is left in the buffer l: a reply at its front, and else what was there
+-- what is left in the buffer l: a reply at its front; otherwise it is unchanged
 unfoldable pub bufferAfter : List ℕ → Opened → List ℕ
 bufferAfter l (refused n) = l
 bufferAfter l tunnelNotice = l
 bufferAfter l (tunnelReply t) = t ++ drop (length t) l
 bufferAfter l (tunnelMessage m) = l
 
--- Opening the packet p with the buffer l, where o is due, answers r and leaves f in the buffer.
+-- Opening the packet p, which is o, with the buffer l answers r and leaves f in the buffer.
 pub record Opens (p l : List ℕ) (o : Opened) (r : Packet) (f : List ℕ) : Type 0 where
   pub answers : openedIn p f r ≡ withRoom (length l) o
   pub fills : f ≡ bufferAfter l (withRoom (length l) o)
-
--- ---- for functions that are not public
--- a writer's answer, where there is no room for the two octets in front of what it writes
-unfoldable pub withoutRoom : Put → Put
-withoutRoom (RefusedPut n) = RefusedPut n
-withoutRoom (Octets n) = RefusedPut 4
-
--- the indicators are put in front of what stands in l behind them, of which n octets count
-pub record Indicated (n : ℕ) (l : List ℕ) (r : Put) (f : List ℕ) : Type 0 where
-  pub counts : r ≡ Octets (n + 2)
-  pub fronts : f ≡ packetText (drop 2 l)

@@ -1,9 +1,9 @@
 -- Document 01, "Tunnel": Q.1990 packets. Two octets, then the message.
--- Octet 1: bit 8 is 0, bit 7 version error, bit 6 is 1, bits 5 to 1 the version, of which 0 is version 1.
--- Octet 2: bit 8 is 0, bit 7 protocol error, bits 6 to 1 the protocol, of which 32 is IPBCP.
+-- Octet 1: bit 8 is 0, bit 7 the version error, bit 6 is 1, bits 5 to 1 the version; 0 means version 1.
+-- Octet 2: bit 8 is 0, bit 7 the protocol error, bits 6 to 1 the protocol; 32 means IPBCP.
 use Prim.Native.Nat.{ℕ, _+_, _*_, _/_, _%_}
 use mathlib.Core.List.{List, [], _∷_}
-use mathlib.Core.Bool.{Bool, _&&_, _||_, cond}
+use mathlib.Core.Bool.{Bool, not, _&&_, _||_, cond}
 use lib.Dec.{eqb, ltb}
 
 -- ---- the two indicators
@@ -25,10 +25,11 @@ versionOf a = a % 32
 unfoldable pub protocolOf : ℕ → ℕ
 protocolOf b = b % 64
 
--- an indicator of the version of which 0 stands for 1, and of a protocol; an error bit is 0 or 1
+-- octet 1 with this error bit and version 1
 unfoldable pub versionIndicator : ℕ → ℕ
 versionIndicator e = e * 64 + 32
 
+-- octet 2 with this error bit and protocol
 unfoldable pub protocolIndicator : ℕ → ℕ → ℕ
 protocolIndicator e p = e * 64 + p
 
@@ -40,34 +41,33 @@ ipbcp = 32
 pub data Opened : Type 0 where
   -- document 01's number
   refused : ℕ → Opened
-  -- the peer found an error in what was sent: no reply
+  -- an error bit is set: the peer found an error in what it was sent, and there is no reply
   tunnelNotice : Opened
   -- a packet to send back
   tunnelReply : List ℕ → Opened
   tunnelMessage : List ℕ → Opened
 
--- the octets a and b, then m; checks in document 01's order: 7, error bits, version, protocol
+-- the octets a and b, then m; the checks are in document 01's order
 unfoldable pub openedBy : ℕ → ℕ → List ℕ → Opened
 openedBy a b m =
-    cond (rightFirst a && rightSecond b)
+    cond (not (rightFirst a && rightSecond b)) (refused 7)
     (cond (hasError a || hasError b) tunnelNotice
-    (cond (eqb (versionOf a) 0)
-    (cond (eqb (protocolOf b) ipbcp) (tunnelMessage m) (tunnelReply (versionIndicator 0 ∷ protocolIndicator 1 (protocolOf b) ∷ [])))
-    (tunnelReply (versionIndicator 1 ∷ protocolIndicator 0 (protocolOf b) ∷ []))))
-    (refused 7)
+    (cond (not (eqb (versionOf a) 0)) (tunnelReply (versionIndicator 1 ∷ protocolIndicator 0 (protocolOf b) ∷ []))
+    (cond (not (eqb (protocolOf b) ipbcp)) (tunnelReply (versionIndicator 0 ∷ protocolIndicator 1 (protocolOf b) ∷ []))
+    (tunnelMessage m))))
 
 unfoldable pub openedPacket : List ℕ → Opened
 openedPacket [] = refused 6
 openedPacket (a ∷ []) = refused 6
 openedPacket (a ∷ b ∷ m) = openedBy a b m
 
--- 4 where a reply is due and the buffer has no room for it
+-- 4 if a reply is due and the buffer has no room for it
 unfoldable pub withRoom : ℕ → Opened → Opened
 withRoom room (refused n) = refused n
 withRoom room tunnelNotice = tunnelNotice
 withRoom room (tunnelReply t) = cond (ltb room 2) (refused 4) (tunnelReply t)
 withRoom room (tunnelMessage m) = tunnelMessage m
 
--- ---- writing a packet: no error, version 1, IPBCP, and the message
+-- ---- writing a packet: version 1, IPBCP, no errors, and the message
 unfoldable pub packetText : List ℕ → List ℕ
 packetText m = versionIndicator 0 ∷ protocolIndicator 0 ipbcp ∷ m

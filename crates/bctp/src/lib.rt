@@ -1,4 +1,4 @@
-// The bearer control tunnelling protocol (Q.1990): two indicators in front of a message.
+// The bearer control tunnelling protocol (Q.1990): two indicators before a message.
 ghost use mathlib.Core.Path.{_≡_};
 ghost use mathlib.Core.Bool.{_&&_};
 ghost use mathlib.Core.List.{List, [], _∷_};
@@ -9,10 +9,19 @@ ghost use Rattle.octets.specs.Puts.{Puts};
 ghost use Rattle.ipbcp.specs.Writing.{messageOctetsIn};
 ghost use Rattle.ipbcp.specs.Meaning.{contentIn};
 ghost use Rattle.bctp.specs.Packet.{rightFirst, rightSecond, hasError, tunnelReply, openedBy, openedPacket, packetText};
-ghost use Rattle.bctp.specs.Meaning.{Opens, withoutRoom, Indicated};
+ghost use Rattle.bctp.specs.Meaning.{Opens};
+ghost use Rattle.bctp.specs.Private.{withoutRoom, Indicated};
 use address::Address;
 use ipbcp::Body;
 use octets::Put;
+
+// Octet 1 of version 1: bit 6, and 0 for the version.
+const VERSION_1: u8 = 32;
+
+// The error bit of either octet.
+const ERROR: u8 = 64;
+
+const VERSION_ERROR: u8 = VERSION_1 + ERROR;
 
 // The protocol number of IPBCP.
 const IPBCP: u8 = 32;
@@ -25,7 +34,7 @@ pub enum Packet {
     Notice,
     // A reply of two octets is at the front of the buffer.
     Reply,
-    // All that stands behind the first two octets is a message.
+    // What comes after the first two octets is a message.
     Message,
 }
 
@@ -49,7 +58,7 @@ fn has_error(a: u8) -> bool
     a / 64 % 2 == 1
 }
 
-// Puts a reply into out, where there is room for it.
+// Puts a reply into out, if there is room for it.
 fn put_reply(a: u8, b: u8, out: &mut [u8]) -> Packet
     ensures { λ r. ⌜ ((p : List ℕ) → Opens p (now (out .entry)) (tunnelReply (a ∷ b ∷ [])) r (now (out .exit))) ⌝ }
 {
@@ -74,17 +83,17 @@ fn open_by(a: u8, b: u8, packet: &[u8], out: &mut [u8]) -> Packet
         }
         let protocol = b % 64;
         if a % 32 != 0 {
-            return put_reply(96, protocol, out);
+            return put_reply(VERSION_ERROR, protocol, out);
         }
         if protocol != IPBCP {
-            return put_reply(32, 64 + protocol, out);
+            return put_reply(VERSION_1, ERROR + protocol, out);
         }
         return Packet::Message;
     }
     Packet::Refused(7)
 }
 
-// Opens a packet. Where a reply is due it is put at the front of out.
+// Opens a packet. If a reply is due, it is put at the front of out.
 pub fn open(packet: &[u8], out: &mut [u8]) -> Packet
     ensures { λ r. ⌜ Opens (now (packet .entry)) (now (out .entry)) (openedPacket (now (packet .entry))) r (now (out .exit)) ⌝ }
 {
@@ -94,7 +103,7 @@ pub fn open(packet: &[u8], out: &mut [u8]) -> Packet
     open_by(packet[0], packet[1], packet, out)
 }
 
-// The answer to a call whose buffer has no room for the indicators: it is refused by 4 where the message is not by 5.
+// The answer to a call whose buffer has no room for the indicators: refused by 4, unless the message is refused by 5.
 fn without_room(r: Put) -> Put
     ensures { λ x. ⌜ x ≡ withoutRoom r ⌝ }
 {
@@ -104,18 +113,18 @@ fn without_room(r: Put) -> Put
     }
 }
 
-// Puts the two indicators of a packet in front of a message of n octets that was written behind them.
+// Puts the two indicators of a packet before a message of n octets, which stands in out from its third octet on.
 fn put_indicators(n: usize, out: &mut [u8]) -> Put
     requires { ⌜ 2 + n ≤ length (now out) ⌝ }
     ensures { λ r. ⌜ Indicated n (now (out .entry)) r (now (out .exit)) ⌝ }
 {
-    out[0] = 32;
+    out[0] = VERSION_1;
     out[1] = IPBCP;
     Put::Octets(n + 2)
 }
 
-// Writes a packet with the message of body. The message's writer is lent all of out behind the first two
-// octets, so what refuses the message refuses the packet.
+// Writes a packet with the message of body. The message's writer is lent all of out after the first two octets, so what refuses
+// the message refuses the packet.
 pub fn write_packet(body: Body, own: Address, source: &[u8], out: &mut [u8]) -> Put
     ensures { λ r. ⌜ Puts (Option·map packetText (messageOctetsIn own (contentIn (now (source .entry)) body))) (now (out .entry)) r (now (out .exit)) ⌝ }
 {

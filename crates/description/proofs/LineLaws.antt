@@ -12,13 +12,13 @@ use Rattle.octets.specs.Split.{has, Found}
 use Rattle.octets.proofs.CaseLaws.{by-bool}
 use Rattle.octets.proofs.SplitLaws.{found-first, has-ltb}
 use Rattle.octets.specs.Words.{same, digitRun}
-use Rattle.texts.specs.Tokens.{token, tokenCount}
+use Rattle.texts.specs.Tokens.{token, tokenCount, afterToken, tokensOf}
 use Rattle.texts.specs.declared.Two.{Two}
 use Rattle.texts.specs.declared.Two.the-variants as two
 use Rattle.texts.specs.declared.Three.{Three}
 use Rattle.texts.specs.declared.Three.the-variants as three
-use Rattle.texts.specs.Lengths.{behindToken, tokensOf, twoBy, threeBy}
-use Rattle.texts.proofs.LengthLaws.{behind-more, behind-other, two-isnt, two-count, two-first, two-second, three-isnt, three-count, three-first, three-second, three-third}
+use Rattle.texts.specs.Lengths.{twoBy, threeBy}
+use Rattle.texts.proofs.LengthLaws.{after-more, after-other, two-isnt, two-count, two-first, two-second, three-isnt, three-count, three-first, three-second, three-third}
 use Rattle.address.specs.declared.Address.{Address}
 use Rattle.address.specs.declared.Parsed.{Parsed}
 use Rattle.address.specs.declared.Parsed.the-variants.{Unicast, Unreadable}
@@ -26,7 +26,8 @@ use Rattle.address.specs.Kinds.{onParsed}
 use Rattle.description.specs.declared.Preamble.{Preamble}
 use Rattle.description.specs.declared.Extended.the-variants.{Go, Wrong}
 use Rattle.description.specs.Draft.{needed, reached, inWord, ip4Word, ip6Word, isOrigin, addressOf, connectionOf, withAddress, connectionLine, isTime}
-use Rattle.description.specs.Meaning.{preambleBy, extendedBy, isHost}
+use Rattle.description.specs.Meaning.{preambleBy, extendedBy}
+use Rattle.description.specs.Private.{isHost}
 
 -- ---- a network, a family and more: the last three tokens of `o=`, and `c=`
 module _ (v : List ℕ) (y : Three) (is : threeBy v y ≡ tokensOf 3 v) where
@@ -72,21 +73,21 @@ pub ruleset hosts = (host-few, host-net, host-four, host-six)
 pub ruleset connections = (connection-few, connection-net, connection-is)
 
 -- ---- the six tokens of `o=`
-origin-host : (v : List ℕ) → isHost (behindToken (behindToken (behindToken v))) ≡ isOrigin v
+origin-host : (v : List ℕ) → isHost (afterToken (afterToken (afterToken v))) ≡ isOrigin v
 unfolding isHost isOrigin
 origin-host v =
-    let a = behindToken v in
-    let b = behindToken a in
-    by-bool (eqb (tokenCount (behindToken b)) 3) _
-    (λ h. let f = behind-more b 2 h in
-    let g = behind-more a 3 (f .0) in
-    let k = behind-more v 4 (g .0) in
-    let x : token 3 v ≡ token 0 (behindToken b) = k .1 2 ∙ g .1 1 ∙ f .1 0 in
-    let y : token 4 v ≡ token 1 (behindToken b) = k .1 3 ∙ g .1 2 ∙ f .1 1 in
+    let a = afterToken v in
+    let b = afterToken a in
+    by-bool (eqb (tokenCount (afterToken b)) 3) _
+    (λ h. let f = after-more b 2 h in
+    let g = after-more a 3 (f .0) in
+    let k = after-more v 4 (g .0) in
+    let x : token 3 v ≡ token 0 (afterToken b) = k .1 2 ∙ g .1 1 ∙ f .1 0 in
+    let y : token 4 v ≡ token 1 (afterToken b) = k .1 3 ∙ g .1 2 ∙ f .1 1 in
     rw (h, k .0, x, y))
-    (λ h. rw (h, behind-other v 4 (behind-other a 3 (behind-other b 2 h))))
+    (λ h. rw (h, after-other v 4 (after-other a 3 (after-other b 2 h))))
 
-pub origin-is : (v a b c : List ℕ) → a ≡ behindToken v → b ≡ behindToken a → c ≡ behindToken b → (t : Bool) → t ≡ isHost c → t ≡ isOrigin v
+pub origin-is : (v a b c : List ℕ) → a ≡ afterToken v → b ≡ afterToken a → c ≡ afterToken b → (t : Bool) → t ≡ isHost c → t ≡ isOrigin v
 origin-is v a b c p q r t e = e ∙ rw (r, q, p) (origin-host v)
 
 -- ---- `t=`

@@ -1,10 +1,11 @@
 -- Document 01, "Message, version 1": what a Request or Accepted says, line by line. A draft is what the lines so far have
--- said; each line makes the next draft, or is wrong (number 10).
+-- said; each line makes the next draft, or is wrong (`none`: number 10).
 use Prim.Native.Nat.{ℕ, _+_}
 use mathlib.Core.List.{List, [], _∷_}
 use mathlib.Core.Bool.{Bool, true, _&&_, _||_, cond}
 use mathlib.Core.Option.{Option, none, some, Option·map}
 use lib.Dec.{eqb}
+use Rattle.octets.specs.Chain.{when}
 use Rattle.octets.specs.Split.{has}
 use Rattle.octets.specs.Text.{ascii, char}
 use Rattle.octets.specs.Words.{begins, same, digitRun}
@@ -13,37 +14,37 @@ use Rattle.address.specs.declared.Address.{Address}
 use Rattle.address.specs.declared.Address.the-variants.{V4}
 use Rattle.address.specs.declared.Parsed.{Parsed}
 use Rattle.address.specs.declared.Parsed.the-variants.{Unreadable}
-use Rattle.address.specs.Kinds.{onParsed}
+use Rattle.address.specs.Kinds.{unicast}
 use Rattle.address.specs.Ipv4.{readV4}
 use Rattle.address.specs.Ipv6.{readV6}
 use Rattle.media.specs.Stream.{Stream, bareStream}
 use Rattle.media.specs.Attributes.{mediaOf, isAttribute, attributeOf}
 
 pub record Draft : Type 0 where
-  -- how many of the needed lines there were: v, o, s, c, t, ipbcp and m are seven
+  -- how many of the seven needed lines there were: v, o, s, c, t, ipbcp and m
   pub had : ℕ
   -- from `c=`
   pub address : Address
-  -- from `m=` and the attributes behind it
+  -- from `m=` and the attributes after it
   pub stream : Stream
 
 -- before the first line
 unfoldable pub emptyDraft : Draft
 emptyDraft = record { had = 0; address = V4 0; stream = bareStream [] 0 [] 0 }
 
--- ---- the needed lines: once each, and in this order; v is what stands behind the letter and `=`
+-- ---- the needed lines: once each, and in this order; v is a line's value, after its letter and `=`
 unfoldable pub reached : ℕ → Draft → Draft
 reached n d = record { had = n; address = d .address; stream = d .stream }
 
--- the needed line behind n others, if it is right
+-- the needed line after n others, if it is right
 unfoldable pub needed : ℕ → Bool → Draft → Option Draft
-needed n right d = cond (eqb (d .had) n) (cond right (some (reached (n + 1) d)) none) none
+needed n right d = when (eqb (d .had) n) (when right (some (reached (n + 1) d)))
 
 -- `v=0`
 unfoldable pub versionLine : Draft → List ℕ → Option Draft
 versionLine d v = needed 0 (same (ascii "0") v) d
 
--- ---- the words of `o=` and `c=`
+-- the words of `o=` and `c=`
 abbrev pub inWord : List ℕ
 inWord = ascii "IN"
 
@@ -53,22 +54,22 @@ ip4Word = ascii "IP4"
 abbrev pub ip6Word : List ℕ
 ip6Word = ascii "IP6"
 
--- six tokens, of which the fourth and the fifth are looked at
+-- `o=`: six tokens, of which only the fourth and the fifth are checked
 unfoldable pub isOrigin : List ℕ → Bool
 isOrigin v = eqb (tokenCount v) 6 && (same inWord (token 3 v) && (same ip4Word (token 4 v) || same ip6Word (token 4 v)))
 
 unfoldable pub originLine : Draft → List ℕ → Option Draft
 originLine d v = needed 1 (isOrigin v) d
 
--- `s=` says nothing
+-- `s=`: any value, empty too
 unfoldable pub sessionLine : Draft → Option Draft
 sessionLine d = needed 2 true d
 
--- an address of the family that the word names
+-- the address s of the family that the word names
 unfoldable pub addressOf : List ℕ → List ℕ → Parsed
 addressOf family s = cond (same ip4Word family) (readV4 s) (cond (same ip6Word family) (readV6 s) Unreadable)
 
--- IN, a family, and a unicast address of it
+-- `c=`: IN, a family, and a unicast address of it
 unfoldable pub connectionOf : List ℕ → Parsed
 connectionOf v = cond (eqb (tokenCount v) 3 && same inWord (token 0 v)) (addressOf (token 1 v) (token 2 v)) Unreadable
 
@@ -76,16 +77,19 @@ unfoldable pub withAddress : Draft → Address → Draft
 withAddress d a = record { had = 4; address = a; stream = d .stream }
 
 unfoldable pub connectionLine : Draft → List ℕ → Option Draft
-connectionLine d v = cond (eqb (d .had) 3) (onParsed (connectionOf v) (λ a. some (withAddress d a)) none) none
+connectionLine d v =
+    when (eqb (d .had) 3)
+    (unicast (connectionOf v) λ a.
+    some (withAddress d a))
 
--- two runs of digits, which may have leading zeros
+-- `t=`: two runs of digits, which may have leading zeros
 unfoldable pub isTime : List ℕ → Bool
 isTime v = eqb (tokenCount v) 2 && (digitRun (token 0 v) && digitRun (token 1 v))
 
 unfoldable pub timeLine : Draft → List ℕ → Option Draft
 timeLine d v = needed 4 (isTime v) d
 
--- The ipbcp line. Behind five others it can only be the first such, from which version and type were read (number 9).
+-- The ipbcp line. After the five others it can only be the first such line, which version and type were read from (number 9).
 unfoldable pub ipbcpLine : Draft → Option Draft
 ipbcpLine d = needed 5 true d
 
@@ -93,18 +97,17 @@ unfoldable pub withStream : Draft → Stream → Draft
 withStream d s = record { had = 7; address = d .address; stream = s }
 
 unfoldable pub mediaLine : Draft → List ℕ → Option Draft
-mediaLine d v = cond (eqb (d .had) 6) (Option·map (withStream d) (mediaOf v)) none
+mediaLine d v = when (eqb (d .had) 6) (Option·map (withStream d) (mediaOf v))
 
--- ---- attributes; a is what stands behind `a=`
+-- ---- attributes; a is what comes after `a=`
 abbrev pub ipbcpWord : List ℕ
 ipbcpWord = ascii "ipbcp:"
 
--- The three attributes of a media line stand behind it alone; others than these are skipped.
+-- The three attributes of a media line come only after it; other attributes are skipped.
 unfoldable pub attributeLine : Draft → List ℕ → Option Draft
 attributeLine d a =
     cond (begins ipbcpWord a) (ipbcpLine d)
-    (cond (isAttribute a)
-    (cond (eqb (d .had) 7) (Option·map (withStream d) (attributeOf (d .stream) a)) none)
+    (cond (isAttribute a) (when (eqb (d .had) 7) (Option·map (withStream d) (attributeOf (d .stream) a)))
     (some d))
 
 -- ---- any line
@@ -112,7 +115,7 @@ attributeLine d a =
 abbrev pub skippedLetters : List ℕ
 skippedLetters = ascii "iuepbzkr"
 
--- by the letter; one that is not among these is wrong
+-- by the letter; a letter that is not listed here is wrong
 unfoldable pub afterField : Draft → ℕ → List ℕ → Option Draft
 afterField d letter v =
     cond (eqb letter (char "v")) (versionLine d v)
@@ -122,9 +125,9 @@ afterField d letter v =
     (cond (eqb letter (char "t")) (timeLine d v)
     (cond (eqb letter (char "m")) (mediaLine d v)
     (cond (eqb letter (char "a")) (attributeLine d v)
-    (cond (has letter skippedLetters) (some d) none)))))))
+    (when (has letter skippedLetters) (some d))))))))
 
--- a line is a letter, `=`, and what stands behind
+-- a line is a letter, `=`, and a value
 unfoldable pub afterLine : Draft → List ℕ → Option Draft
 afterLine d [] = none
 afterLine d (letter ∷ []) = none

@@ -46,7 +46,7 @@ pub fn is_ipbcp(letter: u8, t: &[u8]) -> bool
     false
 }
 
-// A line of this letter whose value is t is skipped, wherever it stands before the media line.
+// A line of this letter whose value is t is skipped, wherever it comes before the media line.
 pub fn is_skipped(letter: u8, t: &[u8]) -> bool
     ensures { λ r. ⌜ r ≡ isSkipped letter (now (t .entry)) ⌝ }
 {

@@ -1,9 +1,10 @@
-// The lines by their letter; t is what stands after the letter and '='.
+// The lines by their letter; t is what comes after the letter and '='.
 ghost use mathlib.Core.Path.{_≡_};
 ghost use Prim.Native.Nat.{_<_};
 ghost use Rattle.octets.specs.Split.{has};
 ghost use Rattle.description.specs.Draft.{needed, isOrigin, addressOf, connectionOf, connectionLine, isTime, skippedLetters};
-ghost use Rattle.description.specs.Meaning.{preambleBy, extendedBy, isHost};
+ghost use Rattle.description.specs.Meaning.{preambleBy, extendedBy};
+ghost use Rattle.description.specs.Private.{isHost};
 use crate::Extended;
 use crate::Preamble;
 use address::Parsed;
@@ -16,7 +17,7 @@ use octets::words::digit_run;
 use octets::words::equals;
 use texts::Three;
 use texts::Two;
-use texts::behind_token;
+use texts::after_token;
 use texts::cut_three;
 use texts::cut_two;
 
@@ -60,7 +61,7 @@ fn is_host(t: &[u8]) -> bool
 pub(crate) fn is_origin(t: &[u8]) -> bool
     ensures { λ r. ⌜ r ≡ isOrigin (now (t .entry)) ⌝ }
 {
-    is_host(behind_token(behind_token(behind_token(t))))
+    is_host(after_token(after_token(after_token(t))))
 }
 
 // The address s of the family that the word names.

@@ -25,7 +25,7 @@ use Rattle.ipbcp.specs.declared.Message.{Message}
 use Rattle.ipbcp.specs.declared.Message.the-variants as answer
 use Rattle.ipbcp.specs.Types.{headIn}
 use Rattle.ipbcp.specs.Reading.{afterLines, concluded, isDescribed, byHead, readMessage, mostRead}
-use Rattle.ipbcp.specs.Whole.{afterText, complete, StreamLines, Reached, TypeAlone, Describes}
+use Rattle.ipbcp.specs.Private.{afterText, complete, ReadsStream, Reached, TypeAlone, Describes}
 use Rattle.ipbcp.specs.Meaning.{readingIn}
 
 -- ---- a type that the code has matched
@@ -116,7 +116,7 @@ unfolding complete
 there true o d e = refl
 there false o d e = absurd (let z : _≡_ {A = ℕ} 0 1 = cc in omega arith)
 
-module _ (m : List ℕ) (kind : MessageType) (a : Address) (from : ℕ) (by : Describes m kind a from) (y : Taken) (is : StreamLines m from y) where
+module _ (m : List ℕ) (kind : MessageType) (a : Address) (from : ℕ) (by : Describes m kind a from) (y : Taken) (is : ReadsStream m from y) where
   all-say : complete (afterText emptyDraft m) ≡ afterMediaBy a m y
   all-say = rw (← by .reached .lines) (sym (is .is a))
 

@@ -16,7 +16,7 @@ use Rattle.octets.specs.Split.{has, before, onFirst, splitOn, partAt}
 use Rattle.octets.specs.Decimal.{allDigits, valueFrom, shortest, numberFrom, readNumber, onNumber}
 use Rattle.octets.specs.Words.{begins, same}
 use Rattle.octets.proofs.CaseLaws.{by-eq, by-bool}
-use Rattle.texts.specs.Tokens.{token, noneEmpty, tokenCount, behindBlank}
+use Rattle.texts.specs.Tokens.{token, noneEmpty, tokenCount, afterBlank}
 use Rattle.sdp.specs.Lines.{lines, allEnded, isPlain, allPlain, isLine, allLines, inLines}
 use Rattle.sdp.proofs.PlainLaws.{plain-parts}
 use Rattle.address.specs.declared.Address.{Address}
@@ -88,11 +88,11 @@ plain-drop zero s h = h
 plain-drop (suc n) [] h = h
 plain-drop (suc n) (b ∷ bs) h = plain-drop n bs (plain-parts b bs h .1)
 
-plain-behind : (s : List ℕ) → allPlain s ≡ true → allPlain (behindBlank s) ≡ true
-unfolding behindBlank
-plain-behind s h = plain-drop (length (before 32 s) + 1) s h
+plain-after : (s : List ℕ) → allPlain s ≡ true → allPlain (afterBlank s) ≡ true
+unfolding afterBlank
+plain-after s h = plain-drop (length (before 32 s) + 1) s h
 
--- what stands behind the letter and `=` of a line
+-- what comes after the letter and `=` of a line
 plain-line : (a e : ℕ) (v : List ℕ) → isLine (a ∷ e ∷ v) ≡ true → allPlain v ≡ true
 unfolding isLine
 plain-line a e v h =
@@ -231,8 +231,8 @@ module _ (s : Stream) (r : Right s) where
     rtpmap-right =
         every-if Right (eqb (length (s .rtpmap)) 0) _
         (λ _. every-number Right (readNumber (token 0 v)) _
-        (λ n _. every-if Right (eqb n (s .payload) && ltb 0 (length (behindBlank v))) _
-        (λ _. fitting-right (withRtpmap (behindBlank v) s) (rtpmap-fits (behindBlank v) (plain-behind v h)))))
+        (λ n _. every-if Right (eqb n (s .payload) && ltb 0 (length (afterBlank v))) _
+        (λ _. fitting-right (withRtpmap (afterBlank v) s) (rtpmap-fits (afterBlank v) (plain-after v h)))))
 
     fmtp-right : every Right (fmtpOf s v)
     unfolding fmtpOf

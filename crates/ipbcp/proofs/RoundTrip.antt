@@ -37,14 +37,14 @@ use Rattle.description.specs.Draft.{Draft, emptyDraft, reached, needed, version
 use Rattle.ipbcp.specs.declared.MessageType.{MessageType}
 use Rattle.ipbcp.specs.declared.MessageType.the-variants.{Request, Accepted, Confused, Rejected}
 use Rattle.ipbcp.specs.declared.Head.the-variants.{Typed}
-use Rattle.ipbcp.specs.Types.{typeWord, typeNamed, headFrom, withoutBlank, firstHead, headIn, ipbcpStart}
+use Rattle.ipbcp.specs.Types.{typeWord, typeNamed, typedFrom, headFrom, withoutBlank, firstHead, headIn, ipbcpStart}
 use Rattle.ipbcp.specs.Reading.{described, afterLines, concluded, isDescribed, byHead, readMessage, mostRead}
 use Rattle.ipbcp.specs.Writing.{Content, requestContent, acceptedContent, confusedContent, rejectedContent, familyWord, hostText, versionText, originText, sessionText, connectionText, timeText, ipbcpText, ptimeLines, streamLines, contentType, mediaLines, messageLines, messageText, rightMedia, rightAttributes, rightContent, messageOctets, readingOf, mostWritten}
 use Rattle.ipbcp.proofs.WrittenLaws.{media-parts, token-parts, attribute-parts, message-lines}
 
 -- ---- version and type
 head-text : (k : MessageType) → headFrom (withoutBlank (drop (length ipbcpStart) (ipbcpText k))) ≡ Typed 1 k
-unfolding ipbcpText typeWord headFrom withoutBlank tokenCount noneEmpty splitOn onFirst partAt readNumber numberFrom shortest allDigits isDigit valueFrom onNumber typeNamed same begins Option·elim
+unfolding ipbcpText typeWord headFrom typedFrom withoutBlank tokenCount noneEmpty splitOn onFirst partAt readNumber numberFrom shortest allDigits isDigit valueFrom onNumber typeNamed same begins Option·elim
 head-text Request = refl
 head-text Accepted = refl
 head-text Confused = refl
@@ -86,7 +86,7 @@ connection-is (V6 h l) f u =
     let b = address-back (V6 h l) f u in
     rw (host-split (V6 h l), lt-ltb 0 (length (addressText (V6 h l))) (address-some (V6 h l))) b
 
--- the draft behind them: all but the media line
+-- the draft after them: all but the media line
 unfoldable sixLines : Address → Draft
 sixLines own = record { had = 6; address = own; stream = emptyDraft .stream }
 

@@ -16,15 +16,15 @@ use Rattle.octets.specs.Spans.{textOf}
 use Rattle.octets.specs.Words.{begins}
 use Rattle.octets.proofs.CaseLaws.{by-bool}
 use Rattle.octets.proofs.Laws.{tail-is}
-use Rattle.texts.specs.Tokens.{token}
+use Rattle.texts.specs.Tokens.{token, tokensOf}
 use Rattle.texts.specs.declared.Two.{Two}
 use Rattle.texts.specs.declared.Two.the-variants as two
-use Rattle.texts.specs.Lengths.{tokensOf, twoBy}
+use Rattle.texts.specs.Lengths.{twoBy}
 use Rattle.texts.proofs.LengthLaws.{two-isnt, two-count, two-first, two-second}
 use Rattle.sdp.specs.declared.Line.{Line}
 use Rattle.sdp.specs.declared.Line.the-variants.{Text, NoLine}
 use Rattle.sdp.specs.Lines.{inLines}
-use Rattle.sdp.specs.Cut.{firstLine, lineIn}
+use Rattle.sdp.specs.Meaning.{firstLine, lineIn}
 use Rattle.sdp.proofs.CutLaws.{loop-lines, loop-inLines, loop-none, loop-end}
 use Rattle.description.specs.Meaning.{isIpbcp}
 use Rattle.ipbcp.specs.declared.MessageType.{MessageType}
@@ -32,13 +32,13 @@ use Rattle.ipbcp.specs.declared.Word.{Word}
 use Rattle.ipbcp.specs.declared.Word.the-variants.{Known, Unknown}
 use Rattle.ipbcp.specs.declared.Head.{Head}
 use Rattle.ipbcp.specs.declared.Head.the-variants.{Typed, Untyped}
-use Rattle.ipbcp.specs.Types.{typeNamed, headFrom, withoutBlank, firstHead, headIn}
-use Rattle.ipbcp.specs.Meaning.{wordIn}
+use Rattle.ipbcp.specs.Types.{typeNamed, typedFrom, headFrom, withoutBlank, firstHead, headIn}
+use Rattle.ipbcp.specs.Private.{wordIn}
 
 -- ---- a version and a type: y is the cut into two tokens
 module _ (s : List ℕ) (y : Two) (cut : twoBy s y ≡ tokensOf 2 s) where
   pub head-few : y ≡ two.Other → Untyped ≡ headFrom s
-  unfolding headFrom
+  unfolding headFrom typedFrom Option·elim
   head-few e = rw (two-isnt s y cut e)
 
   module _ (a : ℕ) (q : y ≡ two.Lengths a) (x : List ℕ) (first : x ≡ take a s) (z : Number) (is : z ≡ readNumber x) where
@@ -46,12 +46,12 @@ module _ (s : List ℕ) (y : Two) (cut : twoBy s y ≡ tokensOf 2 s) where
     number w e = rw (two-first s y cut a q, ← first) (sym is ∙ e)
 
     pub head-bad-number : z ≡ Bad → Untyped ≡ headFrom s
-    unfolding headFrom onNumber
+    unfolding headFrom typedFrom onNumber Option·elim
     head-bad-number e = rw (two-count s y cut a q, number Bad e)
 
     module _ (n : ℕ) (e : z ≡ Value n) where
       pub head-large : 255 < n → Untyped ≡ headFrom s
-      unfolding headFrom onNumber
+      unfolding headFrom typedFrom onNumber Option·elim
       head-large h = rw (two-count s y cut a q, number (Value n) e, lt-leb n 255 h)
 
       module _ (small : n ≤ 255) (b : List ℕ) (second : b ≡ drop (a + 1) s) (w : Word) (word : wordIn w ≡ typeNamed b) where
@@ -59,13 +59,13 @@ module _ (s : List ℕ) (y : Two) (cut : twoBy s y ≡ tokensOf 2 s) where
         kind = rw (two-second s y cut a q, ← second) (sym word)
 
         pub head-unknown : w ≡ Unknown → Untyped ≡ headFrom s
-        unfolding headFrom onNumber wordIn Option·elim
+        unfolding headFrom typedFrom onNumber wordIn Option·elim
         head-unknown u =
             let k : typeNamed (token 1 s) ≡ none = kind ∙ ap wordIn u in
             rw (two-count s y cut a q, number (Value n) e, le-leb n 255 small, k)
 
         pub head-known : (d : MessageType) → w ≡ Known d → Typed n d ≡ headFrom s
-        unfolding headFrom onNumber wordIn Option·elim
+        unfolding headFrom typedFrom onNumber wordIn Option·elim
         head-known d u =
             let k : typeNamed (token 1 s) ≡ some d = kind ∙ ap wordIn u in
             rw (two-count s y cut a q, number (Value n) e, le-leb n 255 small, k)
@@ -92,7 +92,7 @@ pub ruleset blanks = (blank-none, blank-yes, blank-no)
 
 -- ---- the walk to the ipbcp line: y is the line at i
 module _ (m : List ℕ) (i : ℕ) (y : Line) (w : lineIn m y ≡ some (firstLine (drop i m))) (letter : ℕ) (value : Span) (n : ℕ) (q : y ≡ Text letter value n) where
-  -- the ipbcp line says version and type, if lines stand after it; another line leaves them to those
+  -- the ipbcp line says version and type, if lines come after it; another line leaves them to those
   pub head-moved : headIn (drop i m)
       ≡ cond (isIpbcp letter (textOf m value)) (cond (inLines (drop n m)) (headFrom (withoutBlank (drop 6 (textOf m value)))) Untyped) (headIn (drop n m))
   unfolding headIn firstHead isIpbcp begins

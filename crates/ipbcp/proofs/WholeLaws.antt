@@ -16,7 +16,7 @@ use Rattle.octets.specs.Words.{begins}
 use Rattle.sdp.specs.declared.Line.{Line}
 use Rattle.sdp.specs.declared.Line.the-variants.{Text, NoLine}
 use Rattle.sdp.specs.Lines.{lines, inLines}
-use Rattle.sdp.specs.Cut.{firstLine, lineIn}
+use Rattle.sdp.specs.Meaning.{firstLine, lineIn}
 use Rattle.sdp.proofs.CutLaws.{loop-lines, loop-inLines, loop-none, loop-end, loop-ended}
 use Rattle.address.specs.declared.Address.{Address}
 use Rattle.media.specs.declared.Stream.{Stream as Places}
@@ -34,7 +34,7 @@ use Rattle.ipbcp.specs.declared.Head.{Head}
 use Rattle.ipbcp.specs.Types.{headFrom, withoutBlank, headIn}
 use Rattle.ipbcp.specs.Reading.{afterLines}
 use Rattle.ipbcp.proofs.TypeLaws.{head-moved}
-use Rattle.ipbcp.specs.Whole.{afterText, afterTextIf, complete, LaterLines, MediaLines, StreamLines, Reached}
+use Rattle.ipbcp.specs.Private.{afterText, afterTextIf, complete, ReadsLater, ReadsMedia, ReadsStream, Reached}
 
 -- ---- the line at i, with its letter and its value
 module _ (m : List ℕ) (i : ℕ) (y : Line) (w : lineIn m y ≡ some (firstLine (drop i m))) (letter : ℕ) (value : Span) (n : ℕ) (q : y ≡ Text letter value n) where
@@ -77,12 +77,12 @@ pub leads-start : (m : List ℕ) (s : Places) (i : ℕ) → Leads m s i s i
 leads-start m s i = record { same = λ a. refl }
 
 module _ (m : List ℕ) (s s₀ : Places) (i from : ℕ) (inv : Leads m s i s₀ from) where
-  pub later-end : length m ≤ i → LaterLines m s₀ from (TakenStream s)
+  pub later-end : length m ≤ i → ReadsLater m s₀ from (TakenStream s)
   unfolding afterMediaBy takenBy
   later-end h = record { is = λ a. sym (all-there m i h (afterMedia a (streamBy m s))) ∙ inv .same a }
 
   module _ (y : Line) (w : lineIn m y ≡ some (firstLine (drop i m))) where
-    pub later-none : y ≡ NoLine → i < length m → LaterLines m s₀ from TakenWrong
+    pub later-none : y ≡ NoLine → i < length m → ReadsLater m s₀ from TakenWrong
     unfolding afterMediaBy takenBy
     later-none q h = record { is = λ a. sym (none-there m i y w q h (afterMedia a (streamBy m s))) ∙ inv .same a }
 
@@ -90,7 +90,7 @@ module _ (m : List ℕ) (s s₀ : Places) (i from : ℕ) (inv : Leads m s i s₀
       later-moved : (a : Address) → afterTextIf (afterMediaBy a m z) (drop n m) ≡ afterText (afterMedia a (streamBy m s₀)) (drop from m)
       later-moved a = rw (is .is a) (sym (moved m i y w letter value n q (afterMedia a (streamBy m s))) ∙ inv .same a)
 
-      pub later-wrong : z ≡ TakenWrong → LaterLines m s₀ from TakenWrong
+      pub later-wrong : z ≡ TakenWrong → ReadsLater m s₀ from TakenWrong
       unfolding afterTextIf Option·elim afterMediaBy takenBy
       later-wrong e = record { is = λ a. rw e at later-moved a }
 
@@ -106,11 +106,11 @@ module _ (m : List ℕ) (v : Span) (from : ℕ) (x : Taken) (p : takenBy m x ≡
   unfolding mediaLine afterIpbcp afterMediaBy afterMedia withStream
   media-is t e a = rw (← p, e)
 
-  pub media-wrong : x ≡ TakenWrong → MediaLines m v from TakenWrong
+  pub media-wrong : x ≡ TakenWrong → ReadsMedia m v from TakenWrong
   unfolding afterTextIf Option·elim afterMediaBy takenBy
   media-wrong e = record { is = λ a. rw (media-is TakenWrong e a) }
 
-  pub media-read : (s : Places) → x ≡ TakenStream s → (z : Taken) → LaterLines m s from z → MediaLines m v from z
+  pub media-read : (s : Places) → x ≡ TakenStream s → (z : Taken) → ReadsLater m s from z → ReadsMedia m v from z
   unfolding afterTextIf Option·elim afterMediaBy takenBy
   media-read s e z q = record { is = λ a. rw (media-is (TakenStream s) e a) (q .is a) }
 
@@ -130,17 +130,17 @@ ended-later a m (TakenStream s) = refl
 ended-later a m TakenWrong = refl
 
 module _ (m : List ℕ) (i from : ℕ) (inv : Skips m i from) where
-  pub stream-end : length m ≤ i → StreamLines m from TakenWrong
+  pub stream-end : length m ≤ i → ReadsStream m from TakenWrong
   unfolding afterMediaBy takenBy complete afterIpbcp
   stream-end h = record { is = λ a. rw (← inv .same a, all-there m i h (afterIpbcp a)) }
 
   module _ (y : Line) (w : lineIn m y ≡ some (firstLine (drop i m))) where
-    pub stream-none : y ≡ NoLine → i < length m → StreamLines m from TakenWrong
+    pub stream-none : y ≡ NoLine → i < length m → ReadsStream m from TakenWrong
     unfolding afterMediaBy takenBy complete
     stream-none q h = record { is = λ a. rw (← inv .same a, none-there m i y w q h (afterIpbcp a)) }
 
     module _ (letter : ℕ) (value : Span) (n : ℕ) (q : y ≡ Text letter value n) where
-      pub stream-media : letter ≡ 109 → (r : Taken) → MediaLines m value n r → StreamLines m from r
+      pub stream-media : letter ≡ 109 → (r : Taken) → ReadsMedia m value n r → ReadsStream m from r
       unfolding afterField
       stream-media e r p = record {
         is = λ a.
@@ -154,7 +154,7 @@ module _ (m : List ℕ) (i from : ℕ) (inv : Skips m i from) where
         skipped-moved a =
             rw (← inv .same a, moved m i y w letter value n q (afterIpbcp a), between-line a letter (textOf m value) other, is, at)
 
-        pub stream-wrong : b ≡ false → StreamLines m from TakenWrong
+        pub stream-wrong : b ≡ false → ReadsStream m from TakenWrong
         unfolding afterMediaBy takenBy complete afterTextIf Option·elim
         stream-wrong e = record { is = λ a. rw (skipped-moved a, e) }
 

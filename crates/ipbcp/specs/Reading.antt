@@ -16,8 +16,8 @@ use Rattle.ipbcp.specs.declared.Head.{Head}
 use Rattle.ipbcp.specs.declared.Head.the-variants.{Typed, Untyped}
 use Rattle.ipbcp.specs.Types.{headIn}
 
--- The answer to a message: document 01's number; or version and type, where nothing more is read; or a Request or Accepted
--- of version 1, with the address of `c=` and what the media line and its attributes say.
+-- The answer to a message: document 01's number; or version and type, if nothing more is read; or a Request or Accepted of
+-- version 1, with the address of `c=` and what the media line and its attributes say.
 pub data Reading : Type 0 where
   refused : ℕ → Reading
   typed : ℕ → MessageType → Reading
@@ -26,21 +26,21 @@ pub data Reading : Type 0 where
 -- the draft of all lines, if none is wrong
 unfoldable pub afterLines : Draft → List (List ℕ) → Option Draft
 afterLines d [] = some d
-afterLines d (t ∷ ts) = Option·elim (afterLine d t) none (λ e. afterLines e ts)
+afterLines d (t ∷ ts) = Option·elim (afterLine d t) none λ e. afterLines e ts
 
 -- number 10: a wrong line, or not all seven that are needed
 unfoldable pub concluded : MessageType → Option Draft → Reading
 concluded k none = refused 10
 concluded k (some d) = cond (eqb (d .had) 7) (described k (d .address) (d .stream)) (refused 10)
 
--- of Confused and Rejected no more than the type is read
+-- of Confused and Rejected, only version and type are read
 unfoldable pub isDescribed : MessageType → Bool
 isDescribed Request = true
 isDescribed Accepted = true
 isDescribed Confused = false
 isDescribed Rejected = false
 
--- number 9, or what is read by version and type
+-- number 9, or what m says, given its version and type
 unfoldable pub byHead : List ℕ → Head → Reading
 byHead m Untyped = refused 9
 byHead m (Typed version kind) =

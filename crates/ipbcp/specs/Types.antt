@@ -2,10 +2,10 @@
 use Prim.Native.Nat.{ℕ}
 use mathlib.Core.List.{List, [], _∷_, _++_}
 use mathlib.Core.Bool.{cond}
-use mathlib.Core.Option.{Option, none, some, Option·elim}
+use mathlib.Core.Option.{Option, some, Option·elim, Option·map}
 use lib.ListN.{drop, length}
 use lib.Dec.{eqb, leb}
-use Rattle.octets.specs.Decimal.{readNumber, onNumber}
+use Rattle.octets.specs.Chain.{when, number}
 use Rattle.octets.specs.Text.{ascii, blank}
 use Rattle.octets.specs.Words.{begins, same}
 use Rattle.texts.specs.Tokens.{token, tokenCount}
@@ -33,27 +33,30 @@ typeNamed w =
     cond (same (typeWord Request) w) (some Request)
     (cond (same (typeWord Accepted) w) (some Accepted)
     (cond (same (typeWord Confused) w) (some Confused)
-    (cond (same (typeWord Rejected) w) (some Rejected) none)))
+    (when (same (typeWord Rejected) w) (some Rejected))))
 
 -- a version 0 to 255, one blank, and a type
-unfoldable pub headFrom : List ℕ → Head
-headFrom s =
-    cond (eqb (tokenCount s) 2)
-    (onNumber (readNumber (token 0 s))
-    (λ n. cond (leb n 255) (Option·elim (typeNamed (token 1 s)) Untyped (λ k. Typed n k)) Untyped)
-    Untyped)
-    Untyped
+unfoldable pub typedFrom : List ℕ → Option Head
+typedFrom s =
+    when (eqb (tokenCount s) 2)
+    (number (token 0 s) λ version.
+    when (leb version 255)
+    (Option·map (Typed version) (typeNamed (token 1 s))))
 
--- s less a blank at its start, of which there may be one
+-- the same; `Untyped` is refused by 9
+unfoldable pub headFrom : List ℕ → Head
+headFrom s = Option·elim (typedFrom s) Untyped (λ h. h)
+
+-- s without its first octet, if that is a blank: there may be one
 unfoldable pub withoutBlank : List ℕ → List ℕ
 withoutBlank [] = []
 withoutBlank (b ∷ bs) = cond (eqb b blank) bs (b ∷ bs)
 
--- what the first line that begins `a=ipbcp:` says behind that
+-- what the first line that begins `a=ipbcp:` says after that
 unfoldable pub firstHead : List (List ℕ) → Head
 firstHead [] = Untyped
 firstHead (t ∷ ts) = cond (begins ipbcpStart t) (headFrom (withoutBlank (drop (length ipbcpStart) t))) (firstHead ts)
 
--- the version and the type of m, if it is made of lines; `Untyped` is refused by 9
+-- the version and the type of m, if it is made of lines
 unfoldable pub headIn : List ℕ → Head
 headIn m = cond (inLines m) (firstHead (lines m)) Untyped

@@ -1,10 +1,12 @@
--- Document 01, "Message, version 1": the one form in which a message is written, and the fields that can be (number 5).
+-- Document 01, "Message, version 1": the one form in which a message is written, and which fields are in range (number 5
+-- otherwise).
 use Prim.Native.Nat.{ℕ, _+_, _≤_}
 use mathlib.Core.List.{List, [], _∷_, _++_}
 use mathlib.Core.Bool.{Bool, true, not, _&&_, cond}
 use mathlib.Core.Option.{Option, none, some}
 use lib.ListN.{length}
 use lib.Dec.{eqb, leb, ltb}
+use Rattle.octets.specs.Chain.{when}
 use Rattle.octets.specs.Split.{has}
 use Rattle.octets.specs.Text.{ascii, blank}
 use Rattle.sdp.specs.Lines.{allPlain}
@@ -20,7 +22,7 @@ use Rattle.ipbcp.specs.declared.MessageType.the-variants.{Request, Accep
 use Rattle.ipbcp.specs.Types.{ipbcpStart, typeWord}
 use Rattle.ipbcp.specs.Reading.{Reading, typed, described}
 
--- what can be written: one of the four types, a Request or Accepted with a media line
+-- what is to be written: one of the four types, a Request or Accepted with a media line
 pub data Content : Type 0 where
   requestContent : Stream → Content
   acceptedContent : Stream → Content
@@ -32,7 +34,7 @@ unfoldable pub familyWord : Address → List ℕ
 familyWord (V4 n) = ip4Word
 familyWord (V6 h l) = ip6Word
 
--- the family and the address
+-- IN, the family and the address
 unfoldable pub hostText : Address → List ℕ
 hostText a = inWord ++ (blank ∷ (familyWord a ++ (blank ∷ addressText a)))
 
@@ -58,7 +60,7 @@ timeText = ascii "t=0 0"
 unfoldable pub ipbcpText : MessageType → List ℕ
 ipbcpText k = ipbcpStart ++ (ascii "1 " ++ typeWord k)
 
--- of a packet time, none or one
+-- one ptime line, or none for a packet time of 0
 unfoldable pub ptimeLines : ℕ → List (List ℕ)
 ptimeLines n = cond (eqb n 0) [] (ptimeText n ∷ [])
 
@@ -89,8 +91,8 @@ messageLines own c =
 unfoldable pub messageText : Address → Content → List ℕ
 messageText own c = linesText (messageLines own c)
 
--- ---- what is in range: just what would be read back
--- not empty, without a blank, and of octets that may stand in a line
+-- ---- what is in range: exactly what is read back
+-- not empty, without a blank, and of octets that may be part of a line
 unfoldable pub isToken : List ℕ → Bool
 isToken t = ltb 0 (length t) && (not (has blank t) && allPlain t)
 
@@ -102,7 +104,7 @@ allTextsPlain (t ∷ ts) = allPlain t && allTextsPlain ts
 unfoldable pub rightMedia : Stream → Bool
 rightMedia s = isToken (s .media) && (leb 1 (s .port) && (leb (s .port) 65535 && (isToken (s .transport) && leb (s .payload) 127)))
 
--- the texts may stand in lines, at most three of them fmtp's; the packet time is in range; the lines are not too long
+-- rtpmap and at most three fmtp texts that may be part of lines, a packet time in range, and lines that are not too long
 unfoldable pub rightAttributes : Stream → Bool
 rightAttributes s =
     allPlain (s .rtpmap) && (leb (length (s .fmtp)) 3 && (allTextsPlain (s .fmtp) && (leb (s .ptime) 255 && attributesFit s)))
@@ -117,12 +119,13 @@ rightContent rejectedContent = true
 abbrev pub mostWritten : ℕ
 mostWritten = 447
 
--- the octets to write: none where a field is out of range or the message would be too long
+-- the octets to write, if all fields are in range and the message is not too long
 unfoldable pub messageOctets : Address → Content → Option (List ℕ)
 messageOctets own c =
-    cond (isUnicast own && (rightContent c && leb (length (messageText own c)) mostWritten)) (some (messageText own c)) none
+    when (isUnicast own && (rightContent c && leb (length (messageText own c)) mostWritten))
+    (some (messageText own c))
 
--- the same where there may be no content at all
+-- the same if there is any content
 unfoldable pub messageOctetsIn : Address → Option Content → Option (List ℕ)
 messageOctetsIn own none = none
 messageOctetsIn own (some c) = messageOctets own c
@@ -134,7 +137,7 @@ readingOf own (acceptedContent s) = described Accepted own s
 readingOf own confusedContent = typed 1 Confused
 readingOf own rejectedContent = typed 1 Rejected
 
--- media and transport of what is written, if it has a media line, have at most twelve octets together
+-- if there is a media line, its media and transport have at most twelve octets together
 unfoldable pub voice : Content → Type 0
 voice (requestContent s) = length (s .media) + length (s .transport) ≤ 12
 voice (acceptedContent s) = length (s .media) + length (s .transport) ≤ 12

@@ -6,7 +6,7 @@ ghost use mathlib.Core.Option.{none, some};
 ghost use Rattle.description.specs.Draft.{emptyDraft};
 ghost use Rattle.ipbcp.specs.Types.{headIn};
 ghost use Rattle.ipbcp.specs.Reading.{isDescribed, byHead, readMessage};
-ghost use Rattle.ipbcp.specs.Whole.{afterText, complete, LaterLines, MediaLines, StreamLines, Reached, TypeAlone, Describes};
+ghost use Rattle.ipbcp.specs.Private.{afterText, complete, ReadsLater, ReadsMedia, ReadsStream, Reached, TypeAlone, Describes};
 ghost use Rattle.ipbcp.specs.Meaning.{readingIn};
 use address::Address;
 use description::Extended;
@@ -65,9 +65,9 @@ pub enum Body {
     Rejected,
 }
 
-// The stream s with the lines of m from `from` on, which stand after its media line.
+// The stream s with the lines of m from `from` on, which come after its media line.
 fn later_lines(s: Stream, m: &[u8], from: usize) -> Taken
-    ensures { λ r. ⌜ LaterLines (now (m .entry)) s from r ⌝ }
+    ensures { λ r. ⌜ ReadsLater (now (m .entry)) s from r ⌝ }
 {
     let mut stream = s;
     let mut i = from;
@@ -91,7 +91,7 @@ fn later_lines(s: Stream, m: &[u8], from: usize) -> Taken
 
 // The stream of the media line whose value is the text of v in m, with the lines from `from` on after it.
 fn media_lines(m: &[u8], v: Span, from: usize) -> Taken
-    ensures { λ r. ⌜ MediaLines (now (m .entry)) v from r ⌝ }
+    ensures { λ r. ⌜ ReadsMedia (now (m .entry)) v from r ⌝ }
 {
     let Taken::Stream(s) = media::read_media(m, v) else {
         return Taken::Wrong;
@@ -99,9 +99,9 @@ fn media_lines(m: &[u8], v: Span, from: usize) -> Taken
     later_lines(s, m, from)
 }
 
-// The stream of the lines of m from `from` on, which stand after the ipbcp line.
+// The stream of the lines of m from `from` on, which come after the ipbcp line.
 fn read_stream(m: &[u8], from: usize) -> Taken
-    ensures { λ r. ⌜ StreamLines (now (m .entry)) from r ⌝ }
+    ensures { λ r. ⌜ ReadsStream (now (m .entry)) from r ⌝ }
 {
     let mut i = from;
     while i < m.len() {
@@ -165,7 +165,7 @@ fn type_alone(version: u8, kind: MessageType, m: &[u8], from: usize) -> Message
     Message::Refused(9)
 }
 
-// The answer to m, a Request or Accepted of version 1, whose lines from `from` on stand after the ipbcp line.
+// The answer to m, a Request or Accepted of version 1, whose lines from `from` on come after the ipbcp line.
 fn describe(kind: MessageType, address: Address, m: &[u8], from: usize) -> Message
     requires { ⌜ Describes (now m) kind address from ⌝ }
     ensures { λ r. ⌜ readingIn (now (m .entry)) r ≡ some (byHead (now (m .entry)) (headIn (now (m .entry)))) ⌝ }

@@ -2,7 +2,7 @@
 ghost use mathlib.Core.Path.{_≡_};
 ghost use lib.ListN.{drop};
 ghost use Rattle.ipbcp.specs.Types.{typeNamed, headFrom, withoutBlank, headIn};
-ghost use Rattle.ipbcp.specs.Meaning.{wordIn};
+ghost use Rattle.ipbcp.specs.Private.{wordIn};
 use crate::Head;
 use crate::MessageType;
 use crate::Word;

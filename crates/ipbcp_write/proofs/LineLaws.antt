@@ -1,4 +1,4 @@
--- The lines that every message has: each is appended as its parts are, one behind the other.
+-- The lines that every message has: each is appended as its parts are, one after the other.
 -- Assumes nothing.
 use Prim.Native.Nat.{ℕ}
 use mathlib.Core.Path.{_≡_, refl, ap, sym, _∙_}
@@ -12,9 +12,9 @@ use Rattle.address.specs.Canonical.{addressText}
 use Rattle.ipbcp.specs.declared.MessageType.{MessageType}
 use Rattle.ipbcp.specs.Types.{typeWord}
 use Rattle.ipbcp.specs.Writing.{familyWord, hostText, versionText, originText, sessionText, connectionText, timeText, ipbcpText}
-use Rattle.ipbcp_write.specs.Parts.{hostStart}
+use Rattle.ipbcp_write.specs.Private.{hostStart}
 
--- ---- lines one behind the other
+-- ---- lines one after the other
 pub lines-one : (t : List ℕ) → linesText (t ∷ []) ≡ lineText t
 unfolding linesText
 lines-one t = append-nil (lineText t)

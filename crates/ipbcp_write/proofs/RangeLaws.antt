@@ -21,7 +21,7 @@ use Rattle.media.specs.Meaning.{spansOf, textsBy, streamBy}
 use Rattle.description.proofs.LineLaws.{found-has}
 use Rattle.ipbcp.specs.declared.Body.{Body}
 use Rattle.ipbcp.specs.Writing.{isToken, allTextsPlain, rightMedia, rightAttributes}
-use Rattle.ipbcp_write.specs.Parts.{writableBody}
+use Rattle.ipbcp_write.specs.Private.{writableBody}
 
 -- ---- tokens
 module _ (t : List ℕ) where

@@ -1,4 +1,4 @@
--- The media line and its attributes: each line is appended as its parts are, one behind the other.
+-- The media line and its attributes: each line is appended as its parts are, one after the other.
 -- Assumes nothing.
 use Prim.Native.Nat.{ℕ}
 use mathlib.Core.Path.{_≡_}

@@ -28,7 +28,7 @@ use Rattle.ipbcp.specs.declared.Body.the-variants as body
 use Rattle.ipbcp.specs.declared.MessageType.{MessageType}
 use Rattle.ipbcp.specs.Writing.{Content, requestContent, acceptedContent, confusedContent, rejectedContent, versionText, originText, sessionText, connectionText, timeText, ipbcpText, contentType, mediaLines, messageLines, messageText, rightMedia, rightAttributes, rightContent, messageOctets, messageOctetsIn, mostWritten}
 use Rattle.ipbcp.specs.Meaning.{contentIn}
-use Rattle.ipbcp_write.specs.Parts.{contentBy, bodyType, writableStream, writableBody}
+use Rattle.ipbcp_write.specs.Private.{contentBy, bodyType, writableStream, writableBody}
 use Rattle.ipbcp_write.proofs.LineLaws.{lines-append}
 
 -- ---- the parts of a message
@@ -46,7 +46,7 @@ kind-is m (body.Accepted s) = refl
 kind-is m body.Confused = refl
 kind-is m body.Rejected = refl
 
--- the opening lines, those of time and type, and the others, one behind the other
+-- the opening lines, those of time and type, and the others, one after the other
 pub message-then : (own : Address) (m : List ℕ) (b : Body) (k : MessageType) → k ≡ bodyType b → (l f g h : List ℕ) (at x y r : ℕ)
     → Appends g y (linesText (mediaLines (contentBy m b))) r h → Appends f x (linesText (timeText ∷ ipbcpText k ∷ [])) y g
     → Appends l at (linesText (versionText ∷ originText own ∷ sessionText ∷ connectionText own ∷ [])) x f

@@ -1,4 +1,4 @@
--- The promise of `write_message` stands in `ipbcp`. `Parts` is for the functions of this crate that are not public, `Back` for what is
--- shown of what they write.
-pub mod Parts
+-- The contract of `write_message` speaks of definitions of `ipbcp` (`Writing`, `Meaning`). `Back` is for theorems; `Private` is used
+-- only by functions that are not public.
 pub mod Back
+pub mod Private

@@ -9,7 +9,7 @@ ghost use Rattle.octets.specs.Puts.{bounded, Puts};
 ghost use Rattle.sdp.specs.Written.{linesText};
 ghost use Rattle.ipbcp.specs.Writing.{mediaLines, messageText, messageOctetsIn, mostWritten};
 ghost use Rattle.ipbcp.specs.Meaning.{contentIn};
-ghost use Rattle.ipbcp_write.specs.Parts.{contentBy, bodyType};
+ghost use Rattle.ipbcp_write.specs.Private.{contentBy, bodyType};
 use address::Address;
 use ipbcp::Body;
 use ipbcp::MessageType;
@@ -19,7 +19,7 @@ use octets::append::put_front;
 // The longest message that is written.
 pub const MOST_WRITTEN: usize = 447;
 
-// Room for one octet more, so that a message that is too long shows.
+// Room for one octet more, so that a message that is too long can be told from one that just fits.
 const SCRATCH: usize = MOST_WRITTEN + 1;
 
 // The type of a message.
@@ -55,7 +55,7 @@ fn push_message(body: Body, own: Address, source: &[u8], out: &mut [u8], at: usi
     push_body(body, source, out, b)
 }
 
-// Writes a message whose fields are in range, where it is not too long.
+// Writes a message whose fields are in range, if it is not too long.
 fn write_right(body: Body, own: Address, source: &[u8], out: &mut [u8]) -> Put
     ensures { λ r. ⌜ Puts (bounded mostWritten (messageText own (contentBy (now (source .entry)) body))) (now (out .entry)) r (now (out .exit)) ⌝ }
 {

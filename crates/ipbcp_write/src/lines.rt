@@ -5,7 +5,7 @@ ghost use Rattle.octets.specs.Append.{Appends};
 ghost use Rattle.sdp.specs.Written.{lineText, linesText};
 ghost use Rattle.ipbcp.specs.Types.{typeWord};
 ghost use Rattle.ipbcp.specs.Writing.{hostText, versionText, originText, sessionText, connectionText, timeText, ipbcpText};
-ghost use Rattle.ipbcp_write.specs.Parts.{hostStart};
+ghost use Rattle.ipbcp_write.specs.Private.{hostStart};
 use address::Address;
 use address::write::push_address;
 use ipbcp::MessageType;
@@ -18,7 +18,7 @@ pub(crate) fn push_end(out: &mut [u8], at: usize) -> usize
     push(b"\r\n", out, at)
 }
 
-// Appends IN and the word of the address's family, each with a blank behind it.
+// Appends IN and the word of the address's family, each with a blank after it.
 fn push_family(own: Address, out: &mut [u8], at: usize) -> usize
     ensures { λ r. ⌜ Appends (now (out .entry)) at (hostStart own) r (now (out .exit)) ⌝ }
 {

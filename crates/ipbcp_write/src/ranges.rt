@@ -2,7 +2,7 @@
 ghost use mathlib.Core.Path.{_≡_};
 ghost use Rattle.media.specs.Meaning.{textsBy, streamBy};
 ghost use Rattle.ipbcp.specs.Writing.{isToken, allTextsPlain, rightMedia, rightAttributes};
-ghost use Rattle.ipbcp_write.specs.Parts.{writableStream, writableBody};
+ghost use Rattle.ipbcp_write.specs.Private.{writableStream, writableBody};
 use ipbcp::Body;
 use media::Stream;
 use media::Texts;
@@ -12,7 +12,7 @@ use octets::parts::find_from;
 use octets::spans::text;
 use sdp::all_plain;
 
-// t is a token: not empty, without a blank, and of octets that may stand in a line.
+// t is a token: not empty, without a blank, and of octets that may be part of a line.
 fn is_token(t: &[u8]) -> bool
     ensures { λ r. ⌜ r ≡ isToken (now (t .entry)) ⌝ }
 {
@@ -45,7 +45,7 @@ fn right_media(s: Stream, source: &[u8]) -> bool
     false
 }
 
-// The texts may stand in lines.
+// The texts may be part of lines.
 fn are_plain(x: Texts, source: &[u8]) -> bool
     ensures { λ r. ⌜ r ≡ allTextsPlain (textsBy (now (source .entry)) x) ⌝ }
 {

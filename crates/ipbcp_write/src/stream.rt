@@ -32,14 +32,14 @@ fn push_rest(t: &[u8], out: &mut [u8], at: usize) -> usize
     push_end(out, a)
 }
 
-// Appends the media line as far as its port and the blank behind it.
+// Appends the media line up to its port and the blank after that.
 fn push_port(s: Stream, source: &[u8], out: &mut [u8], at: usize) -> usize
     ensures { λ r. ⌜ Appends (now (out .entry)) at (ascii "m=" ++ (textOf (now (source .entry)) (s .media) ++ (blank ∷ (numberText (s .port) ++ (blank ∷ []))))) r (now (out .exit)) ⌝ }
 {
     let media = s.media;
     let a = push(b"m=", out, at);
     let b = push_token(text(source, media), out, a);
-    push_number_then(s.port as u64, 32, out, b)
+    push_number_then(s.port as u64, b' ', out, b)
 }
 
 // Appends transport and payload, and ends the line.
@@ -70,7 +70,7 @@ fn push_rtpmap(s: Stream, source: &[u8], out: &mut [u8], at: usize) -> usize
         return at;
     }
     let a = push(b"a=rtpmap:", out, at);
-    let b = push_number_then(s.payload as u64, 32, out, a);
+    let b = push_number_then(s.payload as u64, b' ', out, a);
     push_rest(t, out, b)
 }
 

@@ -1,4 +1,4 @@
--- The text of a media line and of each attribute, as it is written, is read as what it says: a token ends at the blank behind it,
+-- The text of a media line and of each attribute, as it is written, is read as what it says: a token ends at the blank after it,
 -- since it has none itself, and a number is read back from its digits.
 -- Assumes nothing.
 use Prim.Native.Nat.{ℕ, _+_, _≤_, _<_}
@@ -18,7 +18,7 @@ use Rattle.octets.proofs.AppendLaws.{width-one, width-suc, length-last}
 use Rattle.octets.proofs.CaseLaws.{by-lt}
 use Rattle.octets.proofs.RoundTrip.{number-back, number-has}
 use Rattle.octets.proofs.SplitLaws.{before-here, before-more, has-cons, split-append, split-whole}
-use Rattle.texts.specs.Tokens.{noneEmpty, tokenCount, behindBlank}
+use Rattle.texts.specs.Tokens.{noneEmpty, tokenCount, afterBlank}
 use Rattle.media.specs.Stream.{Stream, bareStream, rtpmapWord, fmtpWord, ptimeWord, mediaText}
 use Rattle.media.specs.Attributes.{mediaOf, fitting, withRtpmap, withFmtp, withPtime, rtpmapOf, fmtpOf, ptimeOf, attributeOf}
 
@@ -29,15 +29,15 @@ number-some n =
     rw (length-last (widthFrom 19 n) n)
     (by-lt n 10 _ (λ h. rw (width-one 19 n h) (omega arith)) (λ h. rw (width-suc 18 n h) (omega arith)))
 
--- ---- what stands before and behind an octet c, where xs has none
+-- ---- what comes before and after an octet c, where xs has none
 before-append : (c : ℕ) (xs ys : List ℕ) → has c xs ≡ false → before c (xs ++ (c ∷ ys)) ≡ xs
 before-append c [] ys h = before-here c c ys refl
 before-append c (b ∷ bs) ys h =
     has-cons c b bs _ h (λ e r. before-more c b (bs ++ (c ∷ ys)) e ∙ ap (λ (l : List ℕ). b ∷ l) (before-append c bs ys r))
 
-behind-append : (xs ys : List ℕ) → has 32 xs ≡ false → behindBlank (xs ++ (32 ∷ ys)) ≡ ys
-unfolding behindBlank
-behind-append xs ys h = rw (before-append 32 xs ys h) (drop-append-add xs (32 ∷ ys) 1)
+after-append : (xs ys : List ℕ) → has 32 xs ≡ false → afterBlank (xs ++ (32 ∷ ys)) ≡ ys
+unfolding afterBlank
+after-append xs ys h = rw (before-append 32 xs ys h) (drop-append-add xs (32 ∷ ys) 1)
 
 -- ---- the media line
 module _ (s : Stream) (a : has 32 (s .media) ≡ false) (b : has 32 (s .transport) ≡ false) where
@@ -75,7 +75,7 @@ rtpmap-back s text e p k =
     (simp (
       number-back (s .payload) (omega arith),
       eq-eqb (s .payload) (s .payload) refl,
-      behind-append (numberText (s .payload)) text h,
+      after-append (numberText (s .payload)) text h,
       lt-ltb 0 (length text) p,
     ))
 

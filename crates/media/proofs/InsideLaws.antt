@@ -14,7 +14,8 @@ use Rattle.octets.specs.Spans.{textOf, inside}
 use Rattle.octets.proofs.SpanLaws.{text-past, text-cut, inside-yes}
 use Rattle.media.specs.declared.Texts.{Texts}
 use Rattle.media.specs.declared.Stream.{Stream as Places}
-use Rattle.media.specs.Meaning.{spansOf, textsBy, streamBy, allIn, textsInside, streamInside, KeptSpan, KeptTexts, KeptInside}
+use Rattle.media.specs.Meaning.{spansOf, textsBy, streamBy, allIn, textsInside, streamInside, KeptInside}
+use Rattle.media.specs.Private.{KeptSpan, KeptTexts}
 
 -- ---- the test of several spans; t, u and w are the tests of the first, second and third
 module _ (m : List ℕ) (x : Texts) where

@@ -18,7 +18,7 @@ use Rattle.media.specs.declared.Texts.{Texts}
 use Rattle.media.specs.declared.Stream.{Stream as Places}
 use Rattle.media.specs.Stream.{mostAttributes, attributeText, rtpmapText, fmtpText, rtpmapLines, fmtpLines, octetsTogether, attributesFit}
 use Rattle.media.specs.Meaning.{spansOf, textsBy, streamBy}
-use Rattle.media.specs.Capped.{capped, Width}
+use Rattle.media.specs.Private.{capped, Width}
 
 -- ---- how many digits a payload has
 pub width-1 : (n : ℕ) → n < 10 → Width n 1

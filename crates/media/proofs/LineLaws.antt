@@ -17,10 +17,10 @@ use Rattle.octets.specs.declared.Number.the-variants.{Value}
 use Rattle.octets.specs.Decimal.{readNumber, onNumber}
 use Rattle.octets.specs.Spans.{textOf}
 use Rattle.octets.specs.Words.{begins}
-use Rattle.texts.specs.Tokens.{token, behindBlank}
+use Rattle.texts.specs.Tokens.{token, afterBlank, tokensOf}
 use Rattle.texts.specs.declared.Four.{Four}
 use Rattle.texts.specs.declared.Four.the-variants as four
-use Rattle.texts.specs.Lengths.{tokensOf, fourBy}
+use Rattle.texts.specs.Lengths.{fourBy}
 use Rattle.texts.proofs.LengthLaws.{four-isnt, four-count, four-first, four-second, four-third, four-fourth}
 use Rattle.media.specs.declared.Texts.{Texts}
 use Rattle.media.specs.declared.Stream.{Stream as Places}
@@ -28,7 +28,8 @@ use Rattle.media.specs.declared.Taken.{Taken}
 use Rattle.media.specs.declared.Taken.the-variants.{Stream as TakenStream, Wrong}
 use Rattle.media.specs.Stream.{Stream, bareStream, rtpmapWord, fmtpWord, ptimeWord}
 use Rattle.media.specs.Attributes.{fitting, withRtpmap, withFmtp, mediaOf, rtpmapOf, fmtpOf, ptimeOf, attributeOf}
-use Rattle.media.specs.Meaning.{spansOf, textsBy, streamBy, mediaBy, takenBy, barePlaces}
+use Rattle.media.specs.Meaning.{spansOf, textsBy, streamBy, takenBy, barePlaces}
+use Rattle.media.specs.Private.{mediaBy}
 use Rattle.media.proofs.TextsLaws.{map-snoc}
 
 -- ---- the media line
@@ -55,7 +56,7 @@ module _ (m t : List ℕ) (y : Four) (is : fourBy t y ≡ tokensOf 4 t) where
   unfolding mediaOf takenBy
   media-few e = rw (four-isnt t y is e)
 
-  -- r stands behind the media, and u behind the port; b and d are the port's text and the payload's
+  -- r comes after the media, and u after the port; b and d are the port's text and the payload's
   pub media-four : (i j k : ℕ) → y ≡ four.Lengths i j k → (r : List ℕ) → r ≡ drop (i + 1) t → (u : List ℕ) → u ≡ drop (j + 1) r
       → (b : List ℕ) → b ≡ take j r → (d : List ℕ) → d ≡ drop (k + 1) u → (v : Span) → t ≡ textOf m v → (x : Taken)
       → takenBy m x ≡ mediaBy (textOf (textOf m v) (record { at = 0; len = i })) b (textOf (textOf m v) (record { at = i + 1 + (j + 1); len = k })) d
@@ -80,10 +81,10 @@ module _ (m : List ℕ) (sp : Span) (a : List ℕ) (p : textOf m sp ≡ a) (i : 
 -- a first rtpmap line with the media line's payload: i and j are the tests for the text before and for the new one, at sp
 module _ (m t : List ℕ) (s : Places) (sp : Span) (i j : Bool) (z : Number) (n : ℕ)
     (e : i ≡ eqb (length (textOf m (s .rtpmap))) 0) (h : i ≡ true) (f : z ≡ readNumber (token 0 t)) (g : z ≡ Value n) (k : n ≡ s .payload)
-    (p : textOf m sp ≡ behindBlank t) (q : j ≡ eqb (length (textOf m sp)) 0) where
+    (p : textOf m sp ≡ afterBlank t) (q : j ≡ eqb (length (textOf m sp)) 0) where
   pub rtpmap-empty : j ≡ true → takenBy m Wrong ≡ rtpmapOf (streamBy m s) t
   unfolding rtpmapOf onNumber takenBy streamBy
-  rtpmap-empty l = rw (← e, h, ← f, g, eq-eqb n (s .payload) k, is-none m sp (behindBlank t) p j q l)
+  rtpmap-empty l = rw (← e, h, ← f, g, eq-eqb n (s .payload) k, is-none m sp (afterBlank t) p j q l)
 
   pub rtpmap-read : (y : Option Stream) → j ≡ false
       → y ≡ fitting (streamBy m (record {
@@ -97,7 +98,7 @@ module _ (m t : List ℕ) (s : Places) (sp : Span) (i j : Bool) (z : Number) (n 
       }))
       → y ≡ rtpmapOf (streamBy m s) t
   unfolding rtpmapOf onNumber withRtpmap streamBy
-  rtpmap-read y l r = rw (← e, h, ← f, g, eq-eqb n (s .payload) k, is-some m sp (behindBlank t) p j q l, ← p) r
+  rtpmap-read y l r = rw (← e, h, ← f, g, eq-eqb n (s .payload) k, is-some m sp (afterBlank t) p j q l, ← p) r
 
 -- one fmtp line more
 pub fmtp-stored : (m : List ℕ) (s : Places) (y : Option Stream) (x : Texts) (sp : Span) → spansOf x ≡ spansOf (s .fmtp) ++ (sp ∷ [])
@@ -116,7 +117,7 @@ fmtp-stored m s y x sp p q = rw (← map-snoc (textOf m) (spansOf (s .fmtp)) sp,
 
 -- ---- an attribute by its word; a is the text of v
 module _ (m a : List ℕ) (v : Span) (st : Stream) (y : Option Stream) (e : a ≡ textOf m v) where
-  -- the text of w is what stands behind n octets
+  -- the text of w is what comes after n octets
   behind : (n : ℕ) (w : Span) → textOf m w ≡ drop n (textOf m v) → textOf m w ≡ drop n a
   behind n w p = p ∙ ap (drop n) (sym e)
 

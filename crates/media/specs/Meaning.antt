@@ -1,19 +1,20 @@
--- What the structs and enums of this crate stand for: their spans are texts of a source.
+-- What the structs and enums of this crate stand for. The code's `Stream` (here `code.Stream`) and the definition's are the same
+-- thing: the code's has places in a source, as spans, where the definition's has the texts.
 use Prim.Native.Nat.{ℕ}
 use mathlib.Core.Path.{_≡_}
 use mathlib.Core.List.{List, [], _∷_, map}
-use mathlib.Core.Bool.{Bool, true, _&&_, cond}
+use mathlib.Core.Bool.{Bool, true, _&&_}
 use mathlib.Core.Option.{Option, none, some}
 use lib.ListN.{take}
 use lib.Dec.{leb}
 use Rattle.octets.specs.declared.Span.{Span}
-use Rattle.octets.specs.Decimal.{readNumber, onNumber}
+use Rattle.octets.specs.Chain.{when}
 use Rattle.octets.specs.Spans.{textOf, inside}
 use Rattle.media.specs.declared.Texts.{Texts}
-use Rattle.media.specs.declared.Stream.{Stream as Places}
+use Rattle.media.specs.declared.Stream as code
 use Rattle.media.specs.declared.Taken.{Taken}
 use Rattle.media.specs.declared.Taken.the-variants.{Stream as TakenStream, Wrong}
-use Rattle.media.specs.Stream.{Stream, bareStream}
+use Rattle.media.specs.Stream.{Stream}
 
 -- the spans that a `Texts` holds
 unfoldable pub spansOf : Texts → List Span
@@ -22,8 +23,8 @@ spansOf x = take (x .count) (x .first ∷ x .second ∷ x .third ∷ [])
 unfoldable pub textsBy : List ℕ → Texts → List (List ℕ)
 textsBy m x = map (textOf m) (spansOf x)
 
--- what a stream says, by the octets of m that are in its spans
-unfoldable pub streamBy : List ℕ → Places → Stream
+-- what a stream says, by the octets of m in its spans
+unfoldable pub streamBy : List ℕ → code.Stream → Stream
 streamBy m s = record {
   media = textOf m (s .media);
   port = s .port;
@@ -34,8 +35,8 @@ streamBy m s = record {
   ptime = s .ptime;
 }
 
--- a media line with these places, and no attribute behind it
-abbrev pub barePlaces : Span → ℕ → Span → ℕ → Places
+-- a media line with these places and numbers, and no attributes
+abbrev pub barePlaces : Span → ℕ → Span → ℕ → code.Stream
 barePlaces media port transport payload = record {
   media = media;
   port = port;
@@ -50,13 +51,6 @@ unfoldable pub takenBy : List ℕ → Taken → Option Stream
 takenBy m (TakenStream s) = some (streamBy m s)
 takenBy m Wrong = none
 
--- for a function that is not public: a media line with these four tokens
-unfoldable pub mediaBy : List ℕ → List ℕ → List ℕ → List ℕ → Option Stream
-mediaBy media port transport payload =
-    onNumber (readNumber port)
-    (λ p. onNumber (readNumber payload) (λ n. cond (leb 1 p && leb n 127) (some (bareStream media p transport n)) none) none)
-    none
-
 -- ---- spans that all lie inside their source
 unfoldable pub allIn : List ℕ → List Span → Bool
 allIn m [] = true
@@ -65,23 +59,15 @@ allIn m (p ∷ ps) = inside m p && allIn m ps
 abbrev pub textsInside : List ℕ → Texts → Bool
 textsInside m x = leb (x .count) 3 && allIn m (spansOf x)
 
-unfoldable pub streamInside : List ℕ → Places → Bool
+unfoldable pub streamInside : List ℕ → code.Stream → Bool
 streamInside m s =
     inside m (s .media) && (inside m (s .transport) && (inside m (s .rtpmap) && textsInside m (s .fmtp)))
 
--- r says the same in m as the span sp, the texts x or the stream s, and lies inside m
-pub record KeptSpan (m : List ℕ) (sp r : Span) : Type 0 where
-  pub same : textOf m r ≡ textOf m sp
-  pub inside : inside m r ≡ true
-
-pub record KeptTexts (m : List ℕ) (x r : Texts) : Type 0 where
-  pub same : textsBy m r ≡ textsBy m x
-  pub inside : textsInside m r ≡ true
-
-pub record KeptInside (m : List ℕ) (s r : Places) : Type 0 where
+-- r says the same in m as the stream s, and its spans lie inside m
+pub record KeptInside (m : List ℕ) (s r : code.Stream) : Type 0 where
   pub same : streamBy m r ≡ streamBy m s
   pub inside : streamInside m r ≡ true
 
--- what a stream stands for, whose spans lie inside m: nothing where one goes past the end
-unfoldable pub streamIn : List ℕ → Places → Option Stream
-streamIn m s = cond (streamInside m s) (some (streamBy m s)) none
+-- what a stream says, if its spans lie inside m
+unfoldable pub streamIn : List ℕ → code.Stream → Option Stream
+streamIn m s = when (streamInside m s) (some (streamBy m s))

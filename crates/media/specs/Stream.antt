@@ -1,4 +1,4 @@
--- Document 01, "Message, version 1": what a media line and the attributes behind it say, as one record, and the texts of
+-- Document 01, "Message, version 1": what a media line and the attributes after it say, as one record, and the texts of
 -- these lines. Each of them has one form in which it is read and written, so the text of a line follows from what it says.
 use Prim.Native.Nat.{ℕ, _+_}
 use mathlib.Core.List.{List, [], _∷_, _++_, map}
@@ -13,11 +13,11 @@ pub record Stream : Type 0 where
   pub port : ℕ
   pub transport : List ℕ
   pub payload : ℕ
-  -- the text behind the payload and its blank; empty where there is no such line, since a text is not
+  -- the text after the payload and its blank; empty if there is no such line, since the text of one is not empty
   pub rtpmap : List ℕ
-  -- the texts behind `a=fmtp:`, in order
+  -- the texts after `a=fmtp:`, in order
   pub fmtp : List (List ℕ)
-  -- 0 where there is none, since a packet time is not 0
+  -- 0 if there is none, since a packet time is not 0
   pub ptime : ℕ
 
 -- what a media line says by itself
@@ -32,7 +32,7 @@ bareStream media port transport payload = record {
   ptime = 0;
 }
 
--- what stands behind `m=`: media, port, transport and payload, with one blank between two
+-- what comes after `m=`: media, port, transport and payload, separated by one blank each
 unfoldable pub mediaText : Stream → List ℕ
 mediaText s = s .media ++ (blank ∷ (numberText (s .port) ++ (blank ∷ (s .transport ++ (blank ∷ numberText (s .payload))))))
 

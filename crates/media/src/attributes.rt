@@ -1,11 +1,11 @@
-// The three attributes of a media line: v is the span in m of what stands behind the colon, and t its text.
+// The three attributes of a media line: v is the span in m of what comes after the colon, and t its text.
 ghost use mathlib.Core.Path.{_≡_};
 ghost use mathlib.Core.List.{_∷_, [], _++_};
 ghost use Prim.Native.Nat.{_<_};
 ghost use lib.ListN.{length};
 ghost use lib.Dec.{eqb};
 ghost use Rattle.octets.specs.Spans.{textOf};
-ghost use Rattle.texts.specs.Tokens.{behindBlank};
+ghost use Rattle.texts.specs.Tokens.{afterBlank};
 ghost use Rattle.media.specs.Attributes.{fitting, rtpmapOf, fmtpOf, ptimeOf};
 ghost use Rattle.media.specs.Meaning.{spansOf, streamBy, takenBy};
 use crate::Stream;
@@ -17,7 +17,7 @@ use octets::Number;
 use octets::Span;
 use octets::decimal::read_number;
 use octets::spans::text;
-use texts::behind_blank;
+use texts::after_blank;
 use texts::inner;
 
 // s, if its attributes are not too long.
@@ -38,12 +38,12 @@ fn is_empty(sp: Span, m: &[u8]) -> bool
     t.len() == 0
 }
 
-// The span in m of what stands behind the first blank of t.
-fn behind(m: &[u8], v: Span, t: &[u8]) -> Span
+// The span in m of what comes after the first blank of t.
+fn span_after_blank(m: &[u8], v: Span, t: &[u8]) -> Span
     requires { ⌜ now t ≡ textOf (now m) v ⌝ }
-    ensures { λ r. ⌜ textOf (now (m .entry)) r ≡ behindBlank (now (t .entry)) ⌝ }
+    ensures { λ r. ⌜ textOf (now (m .entry)) r ≡ afterBlank (now (t .entry)) ⌝ }
 {
-    inner(m, v, behind_blank(t))
+    inner(m, v, after_blank(t))
 }
 
 // s with this rtpmap line.
@@ -60,7 +60,7 @@ pub(crate) fn rtpmap(s: Stream, m: &[u8], v: Span, t: &[u8]) -> Taken
         if n != payload {
             return Taken::Wrong;
         }
-        let new = behind(m, v, t);
+        let new = span_after_blank(m, v, t);
         if is_empty(new, m) {
             return Taken::Wrong;
         }

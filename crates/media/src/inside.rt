@@ -1,6 +1,7 @@
 // Streams whose spans lie inside their source, so that no length is made up.
 ghost use mathlib.Core.Path.{_≡_};
-ghost use Rattle.media.specs.Meaning.{textsInside, streamInside, KeptSpan, KeptTexts, KeptInside};
+ghost use Rattle.media.specs.Meaning.{textsInside, streamInside, KeptInside};
+ghost use Rattle.media.specs.Private.{KeptSpan, KeptTexts};
 use crate::Stream;
 use crate::Texts;
 use octets::Span;

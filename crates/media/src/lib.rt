@@ -1,4 +1,4 @@
-// One media line of a message and the attributes behind it.
+// One media line of a message and the attributes after it.
 mod attributes;
 pub mod inside;
 pub mod limit;
@@ -9,7 +9,8 @@ ghost use Rattle.octets.specs.Spans.{textOf};
 ghost use Rattle.texts.specs.Tokens.{token};
 ghost use Rattle.media.specs.Stream.{bareStream};
 ghost use Rattle.media.specs.Attributes.{mediaOf, isAttribute, attributeOf};
-ghost use Rattle.media.specs.Meaning.{streamBy, barePlaces, mediaBy, takenBy};
+ghost use Rattle.media.specs.Meaning.{streamBy, barePlaces, takenBy};
+ghost use Rattle.media.specs.Private.{mediaBy};
 use octets::Number;
 use octets::Span;
 use octets::decimal::read_number;
@@ -34,8 +35,8 @@ pub struct Texts {
     pub third: Span,
 }
 
-// What a media line and its attributes say, with the places of its texts in a source. An empty rtpmap
-// and a ptime of 0 are none.
+// What a media line and its attributes say, with the places of its texts in a source. An empty rtpmap means that there is none,
+// and so does a ptime of 0.
 pub struct Stream {
     pub media: Span,
     pub port: u16,
@@ -73,7 +74,7 @@ pub fn bare(media: Span, port: u16, transport: Span, payload: u8) -> Stream
     }
 }
 
-// The number that the k-th token of t stands for.
+// The number that the k-th token of t, from 0, stands for.
 pub(crate) fn token_number(t: &[u8], k: usize) -> Number
     ensures { λ r. ⌜ r ≡ readNumber (token k (now (t .entry))) ⌝ }
 {
@@ -124,30 +125,30 @@ fn media_text(m: &[u8], v: Span, t: &[u8]) -> Taken
         return Taken::Wrong;
     };
     let media = Span { at: 0, len: a };
-    let behind_media = after(t, a + 1);
+    let after_media = after(t, a + 1);
     let transport = Span {
         at: a + 1 + (b + 1),
         len: c,
     };
-    let behind_port = after(behind_media, b + 1);
+    let after_port = after(after_media, b + 1);
     media_tokens(
         m,
         v,
         media,
-        up_to(behind_media, b),
+        up_to(after_media, b),
         transport,
-        after(behind_port, c + 1),
+        after(after_port, c + 1),
     )
 }
 
-// Reads what stands behind `m=`, which is the text of v in m.
+// Reads what comes after `m=`: the text of v in m.
 pub fn read_media(m: &[u8], v: Span) -> Taken
     ensures { λ r. ⌜ takenBy (now (m .entry)) r ≡ mediaOf (textOf (now (m .entry)) v) ⌝ }
 {
     media_text(m, v, text(m, v))
 }
 
-// a, what stands behind `a=`, is one of the three attributes that stand behind a media line alone.
+// a, what comes after `a=`, is one of the three attributes that come only after a media line.
 pub fn is_attribute(a: &[u8]) -> bool
     ensures { λ r. ⌜ r ≡ isAttribute (now (a .entry)) ⌝ }
 {
@@ -160,7 +161,7 @@ pub fn is_attribute(a: &[u8]) -> bool
     starts(b"ptime:", a)
 }
 
-// The stream s with what stands behind `a=`, which is the text of v in m.
+// The stream s with the attribute line whose value, after `a=`, is the text of v in m.
 pub fn add_attribute(s: Stream, m: &[u8], v: Span) -> Taken
     ensures { λ r. ⌜ takenBy (now (m .entry)) r ≡ attributeOf (streamBy (now (m .entry)) s) (textOf (now (m .entry)) v) ⌝ }
 {

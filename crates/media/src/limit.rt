@@ -1,18 +1,18 @@
-// The length of the rtpmap and fmtp lines together. A text may have any length, so lengths are counted to one over the limit.
+// The length of the rtpmap and fmtp lines together. A text may have any length, so a count is capped at one over the limit.
 ghost use mathlib.Core.Path.{_≡_};
 ghost use mathlib.Core.List.{map};
 ghost use lib.ListN.{length};
 ghost use Rattle.octets.specs.Spans.{textOf};
 ghost use Rattle.media.specs.Stream.{fmtpText, rtpmapLines, octetsTogether, attributesFit};
 ghost use Rattle.media.specs.Meaning.{textsBy, streamBy};
-ghost use Rattle.media.specs.Capped.{capped, Width};
+ghost use Rattle.media.specs.Private.{capped, Width};
 use crate::MOST_ATTRIBUTES;
 use crate::Stream;
 use crate::Texts;
 use octets::Span;
 use octets::spans::text;
 
-// n, or one over the limit where it is more.
+// n, capped at one over the limit.
 fn cap(n: usize) -> usize
     ensures { λ r. ⌜ r ≡ capped n ⌝ }
 {

@@ -4,6 +4,7 @@ pub mod Split
 pub mod Puts
 pub mod Append
 pub mod Decimal
+pub mod Chain
 pub mod Hex
 pub mod Spans
 pub mod Words

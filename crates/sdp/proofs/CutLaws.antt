@@ -18,7 +18,7 @@ use Rattle.octets.proofs.SplitLaws.{has-before, has-not, split-dot, split-last}
 use Rattle.sdp.specs.declared.Line.{Line}
 use Rattle.sdp.specs.declared.Line.the-variants.{Text, NoLine}
 use Rattle.sdp.specs.Lines.{withoutCr, endedParts, lastPart, lines, allEnded, isLine, allLines, inLines}
-use Rattle.sdp.specs.Cut.{FirstLine, line, noLine, firstLine, lineIn}
+use Rattle.sdp.specs.Meaning.{FirstLine, line, noLine, firstLine, lineIn}
 
 pub lines-nil : lines [] ≡ []
 unfolding lines endedParts splitOn
@@ -44,19 +44,19 @@ parts-cons p (b ∷ bs) = go (eqb b 10) (splitOn 10 bs)
 
 -- s has an LF
 module _ (s : List ℕ) (h : has 10 s ≡ true) where
-  abbrev behind : List ℕ
-  behind = drop (length (before 10 s) + 1) s
+  abbrev rest : List ℕ
+  rest = drop (length (before 10 s) + 1) s
 
-  split-is : splitOn 10 s ≡ before 10 s ∷ splitOn 10 behind
+  split-is : splitOn 10 s ≡ before 10 s ∷ splitOn 10 rest
   split-is = split-dot 10 s (has-before 10 s h)
 
-  cut-lines : lines s ≡ withoutCr (before 10 s) ∷ lines behind
+  cut-lines : lines s ≡ withoutCr (before 10 s) ∷ lines rest
   unfolding lines
-  cut-lines = ap endedParts split-is ∙ parts-cons (before 10 s) behind .0
+  cut-lines = ap endedParts split-is ∙ parts-cons (before 10 s) rest .0
 
-  cut-ended : allEnded s ≡ allEnded behind
+  cut-ended : allEnded s ≡ allEnded rest
   unfolding allEnded
-  cut-ended = ap (λ (ps : List (List ℕ)). eqb (length (lastPart ps)) 0) split-is ∙ rw (parts-cons (before 10 s) behind .1)
+  cut-ended = ap (λ (ps : List (List ℕ)). eqb (length (lastPart ps)) 0) split-is ∙ rw (parts-cons (before 10 s) rest .1)
 
 -- s has no LF, and is not empty
 ended-not : (s : List ℕ) → has 10 s ≡ false → 0 < length s → allEnded s ≡ false

@@ -18,9 +18,10 @@ use Rattle.octets.proofs.Laws.{next, drop-take}
 use Rattle.octets.proofs.SplitLaws.{before-more}
 use Rattle.octets.proofs.CaseLaws.{by-bool}
 use Rattle.sdp.specs.Lines.{isPlain, allPlain, isLine}
-use Rattle.sdp.specs.Cut.{line, noLine, firstLine, lineIn, plainPart, PlainTo, Ends}
+use Rattle.sdp.specs.Meaning.{line, noLine, firstLine, lineIn}
+use Rattle.sdp.specs.Private.{plainPart, PlainTo, Ends, starts}
 use Rattle.sdp.specs.declared.Line.the-variants.{Text, NoLine}
-use Rattle.sdp.proofs.PlainLaws.{is-plain, starts, line-start, start-front, first-lf, first-crlf, first-open, first-last, first-short, first-start, first-wrong}
+use Rattle.sdp.proofs.PlainLaws.{is-plain, line-start, start-front, first-lf, first-crlf, first-open, first-last, first-short, first-start, first-wrong}
 
 -- ---- `plainPart`
 part-more : (b : ℕ) (bs : List ℕ) → isPlain b ≡ true → plainPart (b ∷ bs) ≡ b ∷ plainPart bs

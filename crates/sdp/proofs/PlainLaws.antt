@@ -1,5 +1,5 @@
 -- Laws of plain text, and of the line at the front of a text that begins with it: what is plain is neither LF nor CR, so
--- cutting at an LF and taking a CR off the end leave it as it is, and what stands behind it decides.
+-- cutting at an LF and taking a CR off the end leave it as it is, and what comes after it decides.
 -- Assumes nothing.
 use Prim.Native.Nat.{ℕ, _+_, _≤_, _<_}
 use mathlib.Core.Path.{_≡_, refl, sym, ap, _∙_}
@@ -15,7 +15,8 @@ use Rattle.octets.specs.Split.{has, before}
 use Rattle.octets.proofs.CaseLaws.{by-bool, by-eq}
 use Rattle.octets.proofs.SplitLaws.{before-here, before-more}
 use Rattle.sdp.specs.Lines.{withoutCr, isPlain, allPlain, isLine}
-use Rattle.sdp.specs.Cut.{line, noLine, firstLine}
+use Rattle.sdp.specs.Meaning.{line, noLine, firstLine}
+use Rattle.sdp.specs.Private.{starts}
 
 -- ---- plain text
 pub plain-append : (xs ys : List ℕ) → allPlain (xs ++ ys) ≡ (allPlain xs && allPlain ys)
@@ -46,10 +47,6 @@ unfolding isPlain
 is-plain b h = simp (ne-eqb b 0 (λ e. omega arith), ne-eqb b 13 (λ e. omega arith), ne-eqb b 10 (λ e. omega arith))
 
 -- ---- lines are plain
--- the two octets that a line starts with
-abbrev pub starts : ℕ → ℕ → Bool
-starts a e = leb 97 a && (leb a 122 && eqb e 61)
-
 start-and : (x y z w : Bool) → (x && (y && (z && w))) ≡ (x && (y && z) && w)
 start-and true true true w = refl
 start-and true true false w = refl
@@ -174,7 +171,7 @@ pub first-last : (p : List ℕ) (c : ℕ) → allPlain p ≡ true → (c ≡ 10 
 unfolding has
 first-last p c h e = first-none p (c ∷ []) h (rw (ne-eqb c 10 e))
 
--- behind p stands c, which is not plain
+-- after p stands c, which is not plain
 module _ (p : List ℕ) (h : allPlain p ≡ true) (c : ℕ) (k : isPlain c ≡ false) (r : List ℕ) where
   pub first-short : length p < 2 → firstLine (p ++ (c ∷ r)) ≡ noLine
   unfolding withoutCr

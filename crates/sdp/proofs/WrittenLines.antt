@@ -5,12 +5,12 @@ use mathlib.Core.Path.{_≡_, ap, _∙_}
 use mathlib.Core.List.{List, [], _∷_, _++_, append-assoc}
 use mathlib.Core.Bool.{true, and-eq-true-iff}
 use Rattle.sdp.specs.Lines.{lines, isLine, allLines, inLines}
-use Rattle.sdp.specs.Cut.{line, firstLine}
+use Rattle.sdp.specs.Meaning.{line, firstLine}
 use Rattle.sdp.specs.Written.{lineText, linesText}
 use Rattle.sdp.proofs.PlainLaws.{first-crlf}
 use Rattle.sdp.proofs.CutLaws.{lines-nil, inLines-nil, lines-first, inLines-first}
 
--- a written line stands at the front, and what is written behind it is the rest
+-- a written line stands at the front, and what is written after it is the rest
 written-first : (t r : List ℕ) → isLine t ≡ true → firstLine (lineText t ++ r) ≡ line t r
 unfolding lineText
 written-first t r h = rw (append-assoc t (13 ∷ 10 ∷ []) r) (first-crlf t r h)

@@ -30,7 +30,7 @@ lastPart (p ∷ q ∷ ps) = lastPart (q ∷ ps)
 unfoldable pub lines : List ℕ → List (List ℕ)
 lines m = endedParts (splitOn lf m)
 
--- nothing stands behind the last LF
+-- nothing comes after the last LF
 unfoldable pub allEnded : List ℕ → Bool
 allEnded m = eqb (length (lastPart (splitOn lf m))) 0
 

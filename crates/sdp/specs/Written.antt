@@ -7,7 +7,7 @@ use Rattle.octets.specs.Text.{lf, cr}
 unfoldable pub lineText : List ℕ → List ℕ
 lineText t = t ++ (cr ∷ lf ∷ [])
 
--- the lines ts, one behind the other
+-- the lines ts, one after the other
 unfoldable pub linesText : List (List ℕ) → List ℕ
 linesText [] = []
 linesText (t ∷ ts) = lineText t ++ linesText ts

@@ -1,16 +1,15 @@
 // The lines of a message (RFC 4566), without their ends.
 ghost use mathlib.Core.Path.{_≡_};
-ghost use mathlib.Core.Bool.{_&&_};
 ghost use mathlib.Core.Option.{some};
 ghost use lib.ListN.{drop};
-ghost use lib.Dec.{leb, eqb};
 ghost use Rattle.sdp.specs.Lines.{isPlain, allPlain, inLines};
-ghost use Rattle.sdp.specs.Cut.{firstLine, lineIn, PlainTo, Ends};
+ghost use Rattle.sdp.specs.Meaning.{firstLine, lineIn};
+ghost use Rattle.sdp.specs.Private.{PlainTo, Ends, starts};
 use octets::Span;
 use octets::parts::last_three;
 
 pub enum Line {
-    // A line: its letter, its value (what stands after the `=`), and where the next line starts.
+    // A line: its letter, its value (what comes after the `=`), and where the next line starts.
     Text {
         letter: u8,
         value: Span,
@@ -20,7 +19,7 @@ pub enum Line {
     NoLine,
 }
 
-// b may stand in a line: it is not 0, CR or LF.
+// b may be part of a line: it is not 0, CR or LF.
 fn is_plain(b: u8) -> bool
     ensures { λ r. ⌜ r ≡ isPlain b ⌝ }
 {
@@ -73,7 +72,7 @@ fn find_end(m: &[u8], i: usize) -> usize
     n
 }
 
-// s has only octets that may stand in a line.
+// s has only octets that may be part of a line.
 pub fn all_plain(s: &[u8]) -> bool
     ensures { λ r. ⌜ r ≡ allPlain (now (s .entry)) ⌝ }
 {
@@ -82,7 +81,7 @@ pub fn all_plain(s: &[u8]) -> bool
 
 // A line starts with these two: a lower-case letter and '='.
 fn is_start(a: u8, e: u8) -> bool
-    ensures { λ r. ⌜ r ≡ (leb 97 a && (leb a 122 && eqb e 61)) ⌝ }
+    ensures { λ r. ⌜ r ≡ starts a e ⌝ }
 {
     if a < b'a' {
         return false;

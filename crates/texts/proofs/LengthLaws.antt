@@ -15,14 +15,15 @@ use borrow.Author.Tests.{ltb-true, eqb-true, lt-ltb, le-ltb, le-leb, lt-leb, eq-
 use Rattle.octets.specs.Split.{before, splitOn, findAt, Found, partAt}
 use Rattle.octets.proofs.CaseLaws.{by-eq, by-le, by-lt, by-bool}
 use Rattle.octets.proofs.SplitLaws.{found-first, found, split-some, part-is, part-dot, part-last}
-use Rattle.texts.specs.Tokens.{token, noneEmpty, tokenCount, behindBlank}
+use Rattle.texts.specs.Tokens.{token, noneEmpty, tokenCount, afterBlank, afterToken, tokensOf}
 use Rattle.texts.specs.declared.Two.{Two}
 use Rattle.texts.specs.declared.Two.the-variants as two
 use Rattle.texts.specs.declared.Three.{Three}
 use Rattle.texts.specs.declared.Three.the-variants as three
 use Rattle.texts.specs.declared.Four.{Four}
 use Rattle.texts.specs.declared.Four.the-variants as four
-use Rattle.texts.specs.Lengths.{behindToken, tokensOf, oneBy, twoBy, threeBy, fourBy}
+use Rattle.texts.specs.Lengths.{twoBy, threeBy, fourBy}
+use Rattle.texts.specs.Private.{oneBy}
 
 -- ---- the first blank, at e
 module _ (s : List ℕ) (e : ℕ) (f : Found s 32 0 e) where
@@ -53,7 +54,7 @@ module _ (s : List ℕ) (e : ℕ) (f : Found s 32 0 e) where
       (λ b. rw (cut-last h, b, ne-eqb 0 (suc (suc n)) (λ k. omega arith)))
 
   module _ (l : e < length s) where
-    -- others stand after it
+    -- others come after it
     tokens-more : 1 ≤ e → (n : ℕ) → tokensOf (suc (suc n)) s ≡ Option·map (λ (qs : List (List ℕ)). take e s ∷ qs) (tokensOf (suc n) (drop (e + 1) s))
     unfolding tokensOf tokenCount noneEmpty
     tokens-more h n =
@@ -92,7 +93,7 @@ one-is s h e f t p =
 
 pub ruleset ones = (one-none, one-is)
 
--- ---- `cut_two`, `cut_three` and `cut_four`: r is what stands after the first token, and y what it was read as
+-- ---- `cut_two`, `cut_three` and `cut_four`: r is what comes after the first token, and y what it was read as
 module _ (s : List ℕ) (e : ℕ) (f : Found s 32 0 e) where
   pub two-empty : e < 1 → twoBy s two.Other ≡ tokensOf 2 s
   unfolding twoBy
@@ -305,50 +306,50 @@ module _ (s : List ℕ) (y : Four) (is : fourBy s y ≡ tokensOf 4 s) where
 
 pub ruleset lengths = (two-fits, three-fits, three-fits-2, four-fits, four-fits-2, four-fits-3, four-fits-4)
 
--- ---- `behind_token`
+-- ---- `after_token`
 module _ (s : List ℕ) (e : ℕ) (f : Found s 32 0 e) where
-  pub behind-empty : e < 1 → take 0 (drop 0 s) ≡ behindToken s
-  unfolding behindToken
-  behind-empty h = rw (le-ltb 0 (length (before 32 s)) (omega (arith, found-first s 32 e f)))
+  pub after-empty : e < 1 → take 0 (drop 0 s) ≡ afterToken s
+  unfolding afterToken
+  after-empty h = rw (le-ltb 0 (length (before 32 s)) (omega (arith, found-first s 32 e f)))
 
-  behind-is : 1 ≤ e → behindToken s ≡ drop (e + 1) s
-  unfolding behindToken behindBlank
-  behind-is h = rw (lt-ltb 0 (length (before 32 s)) (omega (arith, found-first s 32 e f)), ← found-first s 32 e f)
+  after-is : 1 ≤ e → afterToken s ≡ drop (e + 1) s
+  unfolding afterToken afterBlank
+  after-is h = rw (lt-ltb 0 (length (before 32 s)) (omega (arith, found-first s 32 e f)), ← found-first s 32 e f)
 
-  pub behind-there : 1 ≤ e → (r : List ℕ) → r ≡ drop (e + 1) s → r ≡ behindToken s
-  behind-there h r p = p ∙ sym (behind-is h)
+  pub after-there : 1 ≤ e → (r : List ℕ) → r ≡ drop (e + 1) s → r ≡ afterToken s
+  after-there h r p = p ∙ sym (after-is h)
 
-pub ruleset behindTokens = (behind-empty, behind-there)
+pub ruleset afterTokens = (after-empty, after-there)
 
 none-left : (n : ℕ) → tokensOf (suc n) [] ≡ none
 unfolding tokensOf tokenCount noneEmpty splitOn
 none-left n = rw (ne-eqb 0 (suc n) (λ k. omega arith))
 
 -- the tokens of s are its first and those after it
-behind-tokens : (s : List ℕ) (n : ℕ)
-    → tokensOf (suc (suc n)) s ≡ Option·map (λ (qs : List (List ℕ)). take (findAt s 32 0) s ∷ qs) (tokensOf (suc n) (behindToken s))
-behind-tokens s n =
+after-tokens : (s : List ℕ) (n : ℕ)
+    → tokensOf (suc (suc n)) s ≡ Option·map (λ (qs : List (List ℕ)). take (findAt s 32 0) s ∷ qs) (tokensOf (suc n) (afterToken s))
+after-tokens s n =
     let e = findAt s 32 0 in
     let f : Found s 32 0 e = found s 32 0 e refl in
     by-lt e 1 _
-    (λ h. let z : behindToken s ≡ [] = sym (behind-empty s e f h) in
+    (λ h. let z : afterToken s ≡ [] = sym (after-empty s e f h) in
     tokens-empty s e f h (suc n) ∙ rw (z, none-left n))
     (λ h. by-lt e (length s) _
-    (λ l. rw (behind-is s e f h) (tokens-more s e f l h n))
-    (λ l. let z : behindToken s ≡ [] = behind-is s e f h ∙ drop-of-length-le s {i = e + 1} (omega arith) in
+    (λ l. rw (after-is s e f h) (tokens-more s e f l h n))
+    (λ l. let z : afterToken s ≡ [] = after-is s e f h ∙ drop-of-length-le s {i = e + 1} (omega arith) in
     tokens-last s e f l n ∙ rw (z, none-left n)))
 
 module _ (s : List ℕ) (n : ℕ) where
-  pub behind-more : eqb (tokenCount (behindToken s)) (suc n) ≡ true
-      → (eqb (tokenCount s) (suc (suc n)) ≡ true) × ((k : ℕ) → token (suc k) s ≡ token k (behindToken s))
+  pub after-more : eqb (tokenCount (afterToken s)) (suc n) ≡ true
+      → (eqb (tokenCount s) (suc (suc n)) ≡ true) × ((k : ℕ) → token (suc k) s ≡ token k (afterToken s))
   unfolding partAt
-  behind-more h =
-      let z : tokensOf (suc n) (behindToken s) ≡ some (splitOn 32 (behindToken s)) = tokens-there (suc n) (behindToken s) h in
-      let y : some (take (findAt s 32 0) s ∷ splitOn 32 (behindToken s)) ≡ tokensOf (suc (suc n)) s = sym (behind-tokens s n ∙ rw z) in
+  after-more h =
+      let z : tokensOf (suc n) (afterToken s) ≡ some (splitOn 32 (afterToken s)) = tokens-there (suc n) (afterToken s) h in
+      let y : some (take (findAt s 32 0) s ∷ splitOn 32 (afterToken s)) ≡ tokensOf (suc (suc n)) s = sym (after-tokens s n ∙ rw z) in
       (are (suc (suc n)) s _ y .0, λ k. rw (are (suc (suc n)) s _ y .1))
 
-  pub behind-other : eqb (tokenCount (behindToken s)) (suc n) ≡ false → eqb (tokenCount s) (suc (suc n)) ≡ false
+  pub after-other : eqb (tokenCount (afterToken s)) (suc n) ≡ false → eqb (tokenCount s) (suc (suc n)) ≡ false
   unfolding tokensOf
-  behind-other h =
-      let z : tokensOf (suc n) (behindToken s) ≡ none = rw h in
-      isnt (suc (suc n)) s (sym (behind-tokens s n ∙ rw z))
+  after-other h =
+      let z : tokensOf (suc n) (afterToken s) ≡ none = rw h in
+      isnt (suc (suc n)) s (sym (after-tokens s n ∙ rw z))

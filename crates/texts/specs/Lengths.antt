@@ -1,32 +1,15 @@
--- What the enums of this crate stand for: a text that has just so many tokens, cut at its blanks; and a text less its first
--- token.
+-- What the enums of this crate stand for: the tokens of a text, cut where the given lengths say, with a blank after each but
+-- the last.
 use Prim.Native.Nat.{ℕ, _+_}
 use mathlib.Core.List.{List, [], _∷_}
-use mathlib.Core.Bool.{Bool, cond}
 use mathlib.Core.Option.{Option, none, some}
-use lib.ListN.{length, take, drop}
-use lib.Dec.{eqb, ltb}
-use Rattle.octets.specs.Split.{before, splitOn}
-use Rattle.octets.specs.Text.{blank}
-use Rattle.texts.specs.Tokens.{tokenCount, behindBlank}
+use lib.ListN.{take, drop}
 use Rattle.texts.specs.declared.Two.{Two}
 use Rattle.texts.specs.declared.Two.the-variants as two
 use Rattle.texts.specs.declared.Three.{Three}
 use Rattle.texts.specs.declared.Three.the-variants as three
 use Rattle.texts.specs.declared.Four.{Four}
 use Rattle.texts.specs.declared.Four.the-variants as four
-
--- what stands after the first token of s and its blank; nothing where that token is empty or
--- the last
-unfoldable pub behindToken : List ℕ → List ℕ
-behindToken s = cond (ltb 0 (length (before blank s))) (behindBlank s) []
-
--- the tokens of s, if there are n
-unfoldable pub tokensOf : ℕ → List ℕ → Option (List (List ℕ))
-tokensOf n s = cond (eqb (tokenCount s) n) (some (splitOn blank s)) none
-
-unfoldable pub oneBy : List ℕ → Bool → Option (List (List ℕ))
-oneBy s b = cond b (some (s ∷ [])) none
 
 unfoldable pub twoBy : List ℕ → Two → Option (List (List ℕ))
 twoBy s (two.Lengths a) = some (take a s ∷ drop (a + 1) s ∷ [])

@@ -1,14 +1,15 @@
-// Tokens of a text and what stands after its first blank, and parts of parts of a text as spans.
+// Tokens of a text and what comes after its first blank, and parts of parts of a text as spans.
 ghost use mathlib.Core.Path.{_≡_};
 ghost use lib.ListN.{drop};
 ghost use Rattle.octets.specs.Spans.{textOf};
-ghost use Rattle.texts.specs.Tokens.{behindBlank};
-ghost use Rattle.texts.specs.Lengths.{behindToken, oneBy, twoBy, threeBy, fourBy, tokensOf};
+ghost use Rattle.texts.specs.Tokens.{afterBlank, afterToken, tokensOf};
+ghost use Rattle.texts.specs.Lengths.{twoBy, threeBy, fourBy};
+ghost use Rattle.texts.specs.Private.{oneBy};
 use octets::Span;
 use octets::parts::find_from;
 use octets::spans::after;
 
-// A text of two tokens: how long the first is. The second is what stands after it and its blank.
+// A text of two tokens: how long the first is. The second is what comes after it and its blank.
 pub enum Two {
     Lengths(usize),
     Other,
@@ -60,9 +61,9 @@ pub fn skip(m: &[u8], sp: Span, n: usize) -> Span
     inner(m, sp, Span { at: n, len: len })
 }
 
-// The span of what stands after the first blank of s.
-pub fn behind_blank(s: &[u8]) -> Span
-    ensures { λ r. ⌜ textOf (now (s .entry)) r ≡ behindBlank (now (s .entry)) ⌝ }
+// The span of what comes after the first blank of s.
+pub fn after_blank(s: &[u8]) -> Span
+    ensures { λ r. ⌜ textOf (now (s .entry)) r ≡ afterBlank (now (s .entry)) ⌝ }
 {
     let e = find_from(s, b' ', 0);
     if s.len() <= e {
@@ -74,9 +75,9 @@ pub fn behind_blank(s: &[u8]) -> Span
     }
 }
 
-// What stands after the first token of s and its blank: nothing where that token is empty or the last.
-pub fn behind_token(s: &[u8]) -> &[u8]
-    ensures { λ r. ⌜ now r ≡ behindToken (now (s .entry)) ⌝ }
+// What comes after the first token of s and its blank: nothing where that token is empty or the last.
+pub fn after_token(s: &[u8]) -> &[u8]
+    ensures { λ r. ⌜ now r ≡ afterToken (now (s .entry)) ⌝ }
 {
     let e = find_from(s, b' ', 0);
     if e < 1 {

@@ -4,7 +4,7 @@ use borrow.Author.Needs.{needs}
 use Rattle.bctp.proofs.without_room.Statement.{statement}
 use Rattle.bctp.proofs.without_room.Tie as tie
 use Rattle.bctp.proofs.WrapLaws.{without-room-of}
-use Rattle.bctp.specs.Meaning.{withoutRoom}
+use Rattle.bctp.specs.Private.{withoutRoom}
 
 enum-known-r : tie.Need-enum-known-r
 enum-known-r c = search needs

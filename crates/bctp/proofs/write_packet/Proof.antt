@@ -1,4 +1,4 @@
--- `write_packet` meets its contract: what the message's writer answers and leaves behind the two octets tells the whole.
+-- `write_packet` meets its contract: what the message's writer answers and leaves after the two octets tells the whole.
 -- Assumes nothing.
 use borrow.Author.Needs.{needs}
 use Rattle.bctp.proofs.write_packet.Statement.{statement}

@@ -1,4 +1,4 @@
--- `emptyDraft` meets its contract: nothing has been said.
+-- `start` meets its contract: no line has been read.
 -- Assumes nothing.
 use borrow.Author.Needs.{needs}
 use Rattle.description.proofs.start.Statement.{statement}

@@ -8,7 +8,7 @@ use Rattle.sdp.proofs.CutLaws.{loop-falls}
 use Rattle.description.specs.Draft.{emptyDraft}
 use Rattle.description.specs.Meaning.{preambleBy}
 use Rattle.ipbcp.specs.Types.{headIn}
-use Rattle.ipbcp.specs.Whole.{afterText}
+use Rattle.ipbcp.specs.Private.{afterText}
 use Prim.Native.Nat.{_-_}
 use mathlib.Core.Path.{_≡_}
 use lib.ListN.{length, drop}

@@ -1,4 +1,4 @@
--- `type_alone` meets its contract: what stands after the ipbcp line is made of lines, or not.
+-- `type_alone` meets its contract: what comes after the ipbcp line is made of lines, or not.
 -- Assumes nothing.
 use borrow.Author.Needs.{needs}
 use Rattle.ipbcp.proofs.type_alone.Statement.{statement}

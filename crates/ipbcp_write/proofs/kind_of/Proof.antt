@@ -4,7 +4,7 @@ use borrow.Author.Needs.{needs}
 use Rattle.ipbcp_write.proofs.kind_of.Statement.{statement}
 use Rattle.ipbcp_write.proofs.kind_of.Tie as tie
 use Rattle.ipbcp_write.proofs.WriteLaws.{kind-of}
-use Rattle.ipbcp_write.specs.Parts.{bodyType}
+use Rattle.ipbcp_write.specs.Private.{bodyType}
 
 enum-told : tie.Need-enum-told
 enum-told c = search needs

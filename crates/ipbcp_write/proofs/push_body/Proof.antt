@@ -7,7 +7,7 @@ use Rattle.ipbcp_write.proofs.WriteLaws.{body-of}
 use Rattle.octets.proofs.AppendLaws.{append-nil}
 use Rattle.sdp.specs.Written.{linesText}
 use Rattle.ipbcp.specs.Writing.{mediaLines}
-use Rattle.ipbcp_write.specs.Parts.{contentBy}
+use Rattle.ipbcp_write.specs.Private.{contentBy}
 
 enum-known-body : tie.Need-enum-known-body
 enum-known-body c = search needs

@@ -6,7 +6,8 @@ use Rattle.media.proofs.media_tokens.Tie as tie
 use borrow.Author.Tests.{lt-leb}
 use Rattle.octets.proofs.Pick.{cond-no, and-no-left, and-no-right}
 use Rattle.octets.proofs.DecimalLaws.{on-value, on-bad}
-use Rattle.media.specs.Meaning.{mediaBy, takenBy}
+use Rattle.media.specs.Meaning.{takenBy}
+use Rattle.media.specs.Private.{mediaBy}
 use Rattle.media.proofs.LineLaws.{media-read}
 
 read-number-requires : tie.Need-read-number-requires

@@ -1,4 +1,4 @@
--- `in_lines` meets its contract: the lines passed over are lines, so what is left decides at each turn.
+-- `in_lines` meets its contract: the lines passed over are lines, so what is left decides at each step.
 -- Assumes nothing.
 use Prim.Native.Nat.{_-_}
 use mathlib.Core.Path.{_≡_}

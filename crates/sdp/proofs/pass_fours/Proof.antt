@@ -4,7 +4,7 @@ use borrow.Author.Needs.{needs}
 use Rattle.sdp.proofs.pass_fours.Statement.{statement}
 use Rattle.sdp.proofs.pass_fours.Tie as tie
 use Rattle.sdp.proofs.EndLaws.{fours}
-use Rattle.sdp.specs.Cut.{PlainTo}
+use Rattle.sdp.specs.Private.{PlainTo}
 use Prim.Native.Nat.{_-_}
 use lib.ListN.{length}
 

@@ -1,4 +1,4 @@
--- `cut_four` meets its contract: what stands after the first token is three tokens, or not.
+-- `cut_four` meets its contract: what comes after the first token is three tokens, or not.
 -- Assumes nothing.
 use borrow.Author.Needs.{needs}
 use Rattle.texts.proofs.cut_four.Statement.{statement}

@@ -1,4 +1,4 @@
--- `cut_three` meets its contract: what stands after the first token is two tokens, or not.
+-- `cut_three` meets its contract: what comes after the first token is two tokens, or not.
 -- Assumes nothing.
 use borrow.Author.Needs.{needs}
 use Rattle.texts.proofs.cut_three.Statement.{statement}

@@ -1,4 +1,4 @@
--- `cut_two` meets its contract: what stands after the first token is one token, or not.
+-- `cut_two` meets its contract: what comes after the first token is one token, or not.
 -- Assumes nothing.
 use borrow.Author.Needs.{needs}
 use Rattle.texts.proofs.cut_two.Statement.{statement}

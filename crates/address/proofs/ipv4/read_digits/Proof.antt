@@ -1,4 +1,4 @@
--- `ipv4::read_digits` meets its contract. The digits that are left, behind the number of those before them, give the same part at each turn.
+-- `ipv4::read_digits` meets its contract. The digits that are left, after the number of those before them, give the same part at each step.
 -- Assumes nothing.
 use Prim.Native.Nat.{_-_, _≤_}
 use mathlib.Core.Path.{_≡_}
@@ -6,7 +6,7 @@ use lib.ListN.{length, drop}
 use borrow.Author.Needs.{needs}
 use Rattle.octets.specs.Split.{before, findAt}
 use Rattle.octets.specs.Decimal.{numberFrom}
-use Rattle.address.specs.Steps.{octetTo, digitsAt}
+use Rattle.address.specs.Private.{octetTo, digitsAt}
 use Rattle.address.proofs.Ipv4Laws.{digitsRead}
 use Rattle.address.proofs.ipv4.read_digits.Statement.{statement}
 use Rattle.address.proofs.ipv4.read_digits.Tie as tie

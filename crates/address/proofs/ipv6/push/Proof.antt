@@ -1,7 +1,7 @@
 -- `ipv6::push` meets its contract. It is the definition.
 -- Assumes nothing.
 use borrow.Author.Needs.{needs}
-use Rattle.address.specs.Steps.{pushed}
+use Rattle.address.specs.Private.{pushed}
 use Rattle.address.proofs.ipv6.push.Statement.{statement}
 use Rattle.address.proofs.ipv6.push.Tie as tie
 

@@ -1,9 +1,9 @@
--- `ipv6::push_zeros` meets its contract. Shifting in the zeros that are left gives the same halves at each turn.
+-- `ipv6::push_zeros` meets its contract. Shifting in the zeros that are left gives the same halves at each step.
 -- Assumes nothing.
 use mathlib.Core.Path.{_≡_}
 use lib.ListN.{replicate}
 use borrow.Author.Needs.{needs}
-use Rattle.address.specs.Steps.{pushAll}
+use Rattle.address.specs.Private.{pushAll}
 use Rattle.address.proofs.SideLaws.{zerosPushed}
 use Rattle.address.proofs.ipv6.push_zeros.Statement.{statement}
 use Rattle.address.proofs.ipv6.push_zeros.Tie as tie

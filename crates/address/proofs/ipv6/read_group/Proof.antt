@@ -1,4 +1,4 @@
--- `ipv6::read_group` meets its contract. The digits that are left, behind the number of those before them, give the same group at each turn.
+-- `ipv6::read_group` meets its contract. The digits that are left, after the number of those before them, give the same group at each step.
 -- Assumes nothing.
 use Prim.Native.Nat.{_-_, _^_, _≤_, _<_}
 use mathlib.Core.Path.{_≡_}
@@ -6,7 +6,7 @@ use lib.ListN.{length, drop}
 use borrow.Author.Needs.{needs}
 use Rattle.octets.proofs.Pick.{picks}
 use Rattle.address.specs.Ipv6.{isGroup}
-use Rattle.address.specs.Steps.{readGroup}
+use Rattle.address.specs.Private.{readGroup}
 use Rattle.address.proofs.GroupLaws.{digitsFrom, groupRead, mul-fits, add-fits}
 use Rattle.address.proofs.ipv6.read_group.Statement.{statement}
 use Rattle.address.proofs.ipv6.read_group.Tie as tie

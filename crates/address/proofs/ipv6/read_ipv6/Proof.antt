@@ -1,4 +1,4 @@
--- `ipv6::read_ipv6` meets its contract. Where "::" starts cuts the text into what stands before it and behind it.
+-- `ipv6::read_ipv6` meets its contract. Where "::" starts cuts the text into what comes before it and after it.
 -- Assumes nothing.
 use borrow.Author.Needs.{needs}
 use Rattle.address.proofs.Ipv6Laws.{is-full, gap-fits, is-gapped}

@@ -1,4 +1,4 @@
--- `ipv6::read_side` meets its contract. The groups that are left, behind those shifted in, give the same side at each turn.
+-- `ipv6::read_side` meets its contract. The groups that are left, after those shifted in, give the same side at each step.
 -- Assumes nothing.
 use Prim.Native.Nat.{_-_, _≤_}
 use mathlib.Core.Path.{_≡_}
@@ -6,7 +6,7 @@ use lib.ListN.{length, drop}
 use borrow.Author.Needs.{needs}
 use Rattle.octets.specs.Split.{splitOn}
 use Rattle.address.specs.Ipv6.{partsOf}
-use Rattle.address.specs.Steps.{sideFrom}
+use Rattle.address.specs.Private.{sideFrom}
 use Rattle.address.proofs.SideLaws.{sideRead}
 use Rattle.address.proofs.ipv6.read_side.Statement.{statement}
 use Rattle.address.proofs.ipv6.read_side.Tie as tie

@@ -1,4 +1,4 @@
--- `write::longest` meets its contract. The longest of the run so far and those that are left is the same run at each turn.
+-- `write::longest` meets its contract. The longest of the run so far and those that are left is the same run at each step.
 -- Assumes nothing.
 use Prim.Native.Nat.{_+_, _-_, _≤_}
 use mathlib.Core.Path.{_≡_}

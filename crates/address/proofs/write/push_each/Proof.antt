@@ -1,4 +1,4 @@
--- `write::push_each` meets its contract. The groups passed over are appended, and each turn appends one more behind a colon.
+-- `write::push_each` meets its contract. The groups passed over are appended, and each turn appends one more after a colon.
 -- Assumes nothing.
 use Prim.Native.Nat.{_-_}
 use mathlib.Core.Path.{_≡_}
@@ -19,14 +19,14 @@ abbrev μ-loop : tie.MeasureT-loop
 loop-holds : tie.Need-loop-holds Inv-loop μ-loop
 loop-holds c = (search needs, search (eachPushed, needs))
 
-mul-push-behind : tie.Need-mul-push-behind Inv-loop μ-loop
-mul-push-behind c = search needs
+mul-push-colon-group : tie.Need-mul-push-colon-group Inv-loop μ-loop
+mul-push-colon-group c = search needs
 
-shared-slice-read-push-behind : tie.Need-shared-slice-read-push-behind Inv-loop μ-loop
-shared-slice-read-push-behind c = search needs
+shared-slice-read-push-colon-group : tie.Need-shared-slice-read-push-colon-group Inv-loop μ-loop
+shared-slice-read-push-colon-group c = search needs
 
-push-behind-requires : tie.Need-push-behind-requires Inv-loop μ-loop
-push-behind-requires c κs = search needs
+push-colon-group-requires : tie.Need-push-colon-group-requires Inv-loop μ-loop
+push-colon-group-requires c κs = search needs
 
 add-j : tie.Need-add-j Inv-loop μ-loop
 add-j c = search needs
@@ -50,9 +50,9 @@ push-each-spec =
     Inv-loop
     μ-loop
     loop-holds
-    mul-push-behind
-    shared-slice-read-push-behind
-    push-behind-requires
+    mul-push-colon-group
+    shared-slice-read-push-colon-group
+    push-colon-group-requires
     add-j
     loop-less
     loop-again

@@ -1,4 +1,4 @@
--- `write::push_gap` meets its contract. The groups are appended behind "::".
+-- `write::push_gap` meets its contract. The groups are appended after "::".
 -- Assumes nothing.
 use borrow.Author.Needs.{needs}
 use Rattle.address.proofs.WriteLaws.{gap-then}

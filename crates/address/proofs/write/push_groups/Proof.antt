@@ -1,4 +1,4 @@
--- `write::push_groups` meets its contract. The first group is appended, and the others behind it.
+-- `write::push_groups` meets its contract. The first group is appended, and the others after it.
 -- Assumes nothing.
 use borrow.Author.Needs.{needs}
 use Rattle.address.proofs.WriteLaws.{groups-none, groups-some}

@@ -1,4 +1,4 @@
--- `write::push_ipv4` meets its contract. The last two numbers are appended behind the first two.
+-- `write::push_ipv4` meets its contract. The last two numbers are appended after the first two.
 -- Assumes nothing.
 use borrow.Author.Needs.{needs}
 use Rattle.address.specs.Canonical.{dottedNumbers, ipv4Text}

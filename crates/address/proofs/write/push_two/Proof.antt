@@ -1,4 +1,4 @@
--- `write::push_two` meets its contract. The second number is appended behind the first and its dot.
+-- `write::push_two` meets its contract. The second number is appended after the first and its dot.
 -- Assumes nothing.
 use borrow.Author.Needs.{needs}
 use Rattle.address.proofs.WriteLaws.{two-pushed}

@@ -1,4 +1,4 @@
--- `write::push_two_more` meets its contract. The two numbers are appended behind the dot.
+-- `write::push_two_more` meets its contract. The two numbers are appended after the dot.
 -- Assumes nothing.
 use borrow.Author.Needs.{needs}
 use Rattle.octets.proofs.AppendLaws.{octet-then}

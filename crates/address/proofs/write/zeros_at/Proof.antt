@@ -1,4 +1,4 @@
--- `write::zeros_at` meets its contract. The zeros passed over and those that are left are the same number at each turn.
+-- `write::zeros_at` meets its contract. The zeros passed over and those that are left are the same number at each step.
 -- Assumes nothing.
 use Prim.Native.Nat.{_+_, _-_, _≤_}
 use mathlib.Core.Path.{_≡_}

@@ -5,7 +5,7 @@ use Rattle.ipbcp.proofs.types.read_word.Statement.{statement}
 use Rattle.ipbcp.proofs.types.read_word.Tie as tie
 use Rattle.octets.proofs.Pick.{picks, flags}
 use Rattle.ipbcp.specs.Types.{typeWord, typeNamed}
-use Rattle.ipbcp.specs.Meaning.{wordIn}
+use Rattle.ipbcp.specs.Private.{wordIn}
 
 slice-aggregate-equals : tie.Need-slice-aggregate-equals
 slice-aggregate-equals c = search needs

@@ -4,7 +4,7 @@ use borrow.Author.Needs.{needs}
 use Rattle.ipbcp_write.proofs.ranges.right_body.Statement.{statement}
 use Rattle.ipbcp_write.proofs.ranges.right_body.Tie as tie
 use Rattle.ipbcp_write.proofs.RangeLaws.{right-of}
-use Rattle.ipbcp_write.specs.Parts.{writableBody}
+use Rattle.ipbcp_write.specs.Private.{writableBody}
 
 enum-known-body : tie.Need-enum-known-body
 enum-known-body c = search needs

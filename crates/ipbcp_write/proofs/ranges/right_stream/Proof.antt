@@ -4,7 +4,7 @@ use borrow.Author.Needs.{needs}
 use Rattle.ipbcp_write.proofs.ranges.right_stream.Statement.{statement}
 use Rattle.ipbcp_write.proofs.ranges.right_stream.Tie as tie
 use Rattle.octets.proofs.Pick.{picks, flags}
-use Rattle.ipbcp_write.specs.Parts.{writableStream}
+use Rattle.ipbcp_write.specs.Private.{writableStream}
 
 stream-inside-requires : tie.Need-stream-inside-requires
 stream-inside-requires c κs = search needs

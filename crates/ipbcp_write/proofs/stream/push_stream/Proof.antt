@@ -1,4 +1,4 @@
--- `stream::push_stream` meets its contract: the media line, and the attributes behind it.
+-- `stream::push_stream` meets its contract: the media line, and the attributes after it.
 -- Assumes nothing.
 use borrow.Author.Needs.{needs}
 use Rattle.ipbcp_write.proofs.stream.push_stream.Statement.{statement}

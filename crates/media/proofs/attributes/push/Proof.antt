@@ -1,4 +1,4 @@
--- `attributes::push` meets its contract: the new span is stored behind those that the count names.
+-- `attributes::push` meets its contract: the new span is stored after those that the count names.
 -- Assumes nothing.
 use borrow.Author.Needs.{needs}
 use Rattle.media.proofs.attributes.push.Statement.{statement}

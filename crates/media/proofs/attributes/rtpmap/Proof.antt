@@ -1,4 +1,4 @@
--- `attributes::rtpmap` meets its contract: the code makes the definition's tests in their order, and the stored span stands for what is behind the blank.
+-- `attributes::rtpmap` meets its contract: the code makes the definition's tests in their order, and the stored span stands for what is after the blank.
 -- Assumes nothing.
 use borrow.Author.Tests.{ne-eqb}
 use borrow.Author.Needs.{needs}
@@ -33,8 +33,8 @@ returns-2 : tie.Need-returns-2
 unfolding rtpmapOf takenBy streamBy
 returns-2 c = search (cond-yes, cond-no, flag-yes, on-value, and-no-left, ne-eqb, needs)
 
-behind-requires : tie.Need-behind-requires
-behind-requires c κs = search needs
+span-after-blank-requires : tie.Need-span-after-blank-requires
+span-after-blank-requires c κs = search needs
 
 is-empty-requires-2 : tie.Need-is-empty-requires-2
 is-empty-requires-2 c κs = search needs
@@ -63,7 +63,7 @@ rtpmap-spec =
     returns
     cast-payload
     returns-2
-    behind-requires
+    span-after-blank-requires
     is-empty-requires-2
     returns-3
     fitting-requires

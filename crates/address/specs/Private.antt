@@ -1,4 +1,4 @@
--- What the contracts of the private functions speak of: values on the way to those of the public ones.
+-- Private: used only by functions of this crate that are not public, for values on the way to an address or its text.
 use Prim.Native.Nat.{ℕ, _+_, _*_, _/_, _%_, _^_, _≤_}
 use mathlib.Core.Path.{_≡_}
 use mathlib.Core.List.{List, [], _∷_, map}
@@ -21,15 +21,15 @@ use Rattle.address.specs.Ipv6.{isGroup, groupValue}
 use Rattle.address.specs.Canonical.{hexWidth, longestRun}
 
 -- ---- reading IPv4
--- the part that ends at e, where its number z is one to 255
+-- the part that ends at e, if its number z is at most 255
 unfoldable pub octetTo : ℕ → Number → Part
 octetTo e z = onNumber z (λ n. cond (leb n 255) (Octet n e) NoOctet) NoOctet
 
--- the part of s that starts at i, its number with leading zeros or not
+-- the part of s that starts at i; leading zeros are allowed
 unfoldable pub digitsAt : List ℕ → ℕ → Part
 digitsAt s i = octetTo (findAt s (char ".") i) (numberFrom 0 (before (char ".") (drop i s)))
 
--- and without them
+-- the same without leading zeros
 unfoldable pub octetAt : List ℕ → ℕ → Part
 octetAt s i = octetTo (findAt s (char ".") i) (readNumber (before (char ".") (drop i s)))
 
@@ -50,7 +50,7 @@ unfoldable pub pushAll : Halves → List ℕ → Halves
 pushAll h [] = h
 pushAll h (g ∷ gs) = pushAll (pushed h g) gs
 
--- k groups were shifted in, and now those of ps are
+-- the groups of ps shifted into h, after k others
 unfoldable pub sideFrom : ℕ → Halves → List (List ℕ) → GapSide
 sideFrom k h ps = cond (allParts isGroup ps) (Groups (k + length ps) (pushAll h (map groupValue ps))) NoSide
 

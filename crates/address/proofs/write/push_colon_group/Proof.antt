@@ -1,9 +1,9 @@
--- `write::push_behind` meets its contract. The group is appended behind the colon.
+-- `write::push_colon_group` meets its contract. The group is appended after the colon.
 -- Assumes nothing.
 use borrow.Author.Needs.{needs}
 use Rattle.octets.proofs.AppendLaws.{octet-then}
-use Rattle.address.proofs.write.push_behind.Statement.{statement}
-use Rattle.address.proofs.write.push_behind.Tie as tie
+use Rattle.address.proofs.write.push_colon_group.Statement.{statement}
+use Rattle.address.proofs.write.push_colon_group.Tie as tie
 
 push-octet-requires : tie.Need-push-octet-requires
 push-octet-requires c κs = search needs
@@ -17,5 +17,5 @@ same-length c = search needs
 returns : tie.Need-returns
 returns c = search (octet-then, needs)
 
-pub push-behind-spec : {M : Type 1} → statement M
-push-behind-spec = tie.close (tie.spec push-octet-requires push-group-requires same-length returns)
+pub push-colon-group-spec : {M : Type 1} → statement M
+push-colon-group-spec = tie.close (tie.spec push-octet-requires push-group-requires same-length returns)

@@ -1,10 +1,11 @@
--- For the functions of this crate that are not public: what stands between a body whose texts are places in a source and the octets of its message.
+-- Private: used only by functions of this crate that are not public, on the way from a body, whose texts are places in a source,
+-- to the octets of its message.
 use Prim.Native.Nat.{ℕ}
 use mathlib.Core.List.{List, [], _∷_, _++_}
 use mathlib.Core.Bool.{Bool, true, _&&_}
 use Rattle.octets.specs.Text.{ascii}
 use Rattle.address.specs.declared.Address.{Address}
-use Rattle.media.specs.declared.Stream.{Stream as Places}
+use Rattle.media.specs.declared.Stream as code
 use Rattle.media.specs.Meaning.{streamBy, streamInside}
 use Rattle.ipbcp.specs.declared.Body.{Body}
 use Rattle.ipbcp.specs.declared.Body.the-variants as body
@@ -12,22 +13,22 @@ use Rattle.ipbcp.specs.declared.MessageType.{MessageType}
 use Rattle.ipbcp.specs.declared.MessageType.the-variants as kind
 use Rattle.ipbcp.specs.Writing.{Content, requestContent, acceptedContent, confusedContent, rejectedContent, familyWord, rightMedia, rightAttributes}
 
--- the content by the octets of m that are in the spans, wherever these end
+-- the content of a body by the octets of m in its spans, which may go past the end
 unfoldable pub contentBy : List ℕ → Body → Content
 contentBy m (body.Request s) = requestContent (streamBy m s)
 contentBy m (body.Accepted s) = acceptedContent (streamBy m s)
 contentBy m body.Confused = confusedContent
 contentBy m body.Rejected = rejectedContent
 
--- its type
+-- a body's type
 unfoldable pub bodyType : Body → MessageType
 bodyType (body.Request s) = kind.Request
 bodyType (body.Accepted s) = kind.Accepted
 bodyType body.Confused = kind.Confused
 bodyType body.Rejected = kind.Rejected
 
--- the spans lie inside m, and what is in them is in range
-unfoldable pub writableStream : List ℕ → Places → Bool
+-- the spans lie inside m, and all fields are in range
+unfoldable pub writableStream : List ℕ → code.Stream → Bool
 writableStream m s = streamInside m s && (rightMedia (streamBy m s) && rightAttributes (streamBy m s))
 
 unfoldable pub writableBody : List ℕ → Body → Bool
