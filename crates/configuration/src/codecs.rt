@@ -6,8 +6,8 @@ ghost use Rattle.configuration.specs.Meaning.{codecBy, codecsBy, foundBy
 ghost use Rattle.configuration.specs.Steps.{EntryCount};
 use crate::Codec;
 use crate::Config;
-use crate::FoundCodec;
 use crate::Format;
+use crate::FoundCodec;
 use crate::MOST_CODECS;
 use crate::MOST_NAME;
 use octets::append::push;
