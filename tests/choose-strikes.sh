@@ -42,7 +42,7 @@ cases > "$work/cases"
 use Prim.Native.Nat.{ℕ, suc}
 use mathlib.Core.Path.{_≡_, refl}
 use mathlib.Core.List.{List, [], _∷_, map}
-use Rattle.book.specs.Book.{Verdict, refused, discarded, opened, agreed, failed, released, confused, accepted, rejected}
+use Rattle.book.specs.Book.{Verdict, refused, discarded, opened, agreed, failed, released, requestConfused, requestRight, requestWrong}
 use Rattle.book.specs.Strike.{keptOf, sheetOf}
 
 -- the verdicts; what stands in bearers, Requests and octets does not matter here
@@ -65,13 +65,13 @@ free : Verdict ℕ ℕ
 free = released
 
 confuse : Verdict ℕ ℕ
-confuse = confused []
+confuse = requestConfused []
 
 accept : Verdict ℕ ℕ
-accept = accepted 0 []
+accept = requestRight 0 []
 
 reject : Verdict ℕ ℕ
-reject = rejected []
+reject = requestWrong []
 
 -- an event: its number, and its verdict
 record Numbered : Type 0 where

@@ -1,11 +1,15 @@
--- The claim `Struck` holds of every list of events, for any rule that meets `Laws`. Assumes nothing.
+-- Steps of the proof of demand 3 (`Demand3` in `Demand` of `endpoint`), for any rule that gives a verdict on book and event: what is
+-- asked of the rule is `Laws`, what then holds of the log and of the lines that are left is `Struck`, and `struck` shows it.
+-- Assumes nothing.
+use Prim.Native.Nat.{ℕ}
 use mathlib.Core.Path.{_≡_, refl, sym, _∙_, ap}
 use mathlib.Core.List.{List, [], _∷_, _++_, map, map-append, foldl, foldl-append, Sublistᴰ, Sublistᴰ·slnil, Sublistᴰ·cons, Sublistᴰ·cons-cons}
-use mathlib.Core.Option.{Option, none}
+use mathlib.Core.Option.{Option, none, some}
+use Rattle.book.specs.declared.Side.{Side}
 use Rattle.book.specs.Book.{Book, idle, awaitSetup, up, awaitChange, Verdict, refused, discarded, opened, agreed, failed, released, requestConfused, requestRight, requestWrong}
 use Rattle.book.specs.Book.{settled, closed, moved, replied}
-use Rattle.book.specs.Strike.{LogLine, Log, Sheet, undropped, eventsOf, unattempted, keptAfter, beforeAfter, inForceBy, lastSettled}
-use Rattle.book.specs.Strike.{logLine, logged, logOf, marked, sheetOf, Laws, Struck}
+use Rattle.book.specs.Strike.{LogLine, Log, Sheet, undropped, eventsOf, attemptStruck, keptAfter, beforeOpen, inForceBy, lastSettled}
+use Rattle.book.specs.Strike.{logLine, logged, logOf, marked, sheetOf, keptOf}
 
 module _ {A : Type 0} where
   part-more : {xs ys : List A} (l : A) → Sublistᴰ xs ys → Sublistᴰ xs (ys ++ (l ∷ []))
@@ -19,6 +23,32 @@ module _ {A : Type 0} where
   part-both l (Sublistᴰ·cons-cons e s) = Sublistᴰ·cons-cons e (part-both l s)
 
 module _ {Bearer Request Event : Type 0} (rule : Book Bearer Request → Event → Verdict Bearer Request) where
+  -- what is asked of the rule
+  pub record Laws (exchanged : Event → Option Bearer) : Type 0 where
+    -- no command is taken while a Request is open
+    pub opened-setup : (p : Request) (e : Event) (q : Request) (o : List ℕ) → rule (awaitSetup p) e ≡ opened q o → ⊥
+    pub opened-change : (s : Side) (b : Bearer) (p : Request) (e : Event) (q : Request) (o : List ℕ) → rule (awaitChange s b p) e ≡ opened q o → ⊥
+    -- a release does not look at an open change
+    pub released-change : (s : Side) (b : Bearer) (p : Request) (e : Event) → rule (awaitChange s b p) e ≡ released → rule (up s b) e ≡ released
+    -- no Request is judged while a set-up is open, and one that is judged right is so whether or not a change is open
+    pub accepted-setup : (p : Request) (e : Event) (a : Bearer) (o : List ℕ) → rule (awaitSetup p) e ≡ requestRight a o → ⊥
+    pub accepted-change : (s : Side) (b : Bearer) (p : Request) (e : Event) (a : Bearer) (o : List ℕ) → rule (awaitChange s b p) e ≡ requestRight a o → rule (up s b) e ≡ requestRight a o
+    -- an exchange settles the bearer that its message names
+    pub agreed-names : (k : Book Bearer Request) (e : Event) (b : Bearer) → rule k e ≡ agreed b → exchanged e ≡ some b
+    pub accepted-names : (k : Book Bearer Request) (e : Event) (b : Bearer) (o : List ℕ) → rule k e ≡ requestRight b o → exchanged e ≡ some b
+
+  -- what then holds of every list of events
+  pub record Struck (exchanged : Event → Option Bearer) (es : List Event) : Type 0 where
+    -- what is left are lines of the run, in its order
+    pub part : Sublistᴰ (keptOf rule es) (logOf rule es .lines)
+    -- the events left, given to another fresh endpoint, get the same replies, with the same bearer in force after each (none drops
+    -- a change of ours, since a change that was dropped is struck)
+    pub same-lines : logOf rule (eventsOf (keptOf rule es)) .lines ≡ map undropped (keptOf rule es)
+    -- they leave the same book, and so the same bearer
+    pub same-book : logOf rule (eventsOf (keptOf rule es)) .book ≡ logOf rule es .book
+    -- the bearer in force is that of the last successful exchange since the last release that was not refused
+    pub in-force : settled (logOf rule es .book) ≡ lastSettled exchanged (logOf rule es .lines)
+
   -- the events of the lines, given to a fresh endpoint, give the lines and leave the book k
   abbrev Replays : List (LogLine Bearer Event) → Book Bearer Request → Type 0
   Replays ls k = logOf rule (eventsOf ls) ≡ record { book = k; lines = map undropped ls }
@@ -39,7 +69,7 @@ module _ {Bearer Request Event : Type 0} (rule : Book Bearer Request → Event �
 
   -- what holds of the lines of a book with no open Request holds with the open attempt struck
   struck-same : (k : Book Bearer Request) (before kept kept′ : List (LogLine Bearer Event))
-      → Replays kept′ k → Replays (unattempted k before kept) (closed k) → Replays (unattempted k before kept′) (closed k)
+      → Replays kept′ k → Replays (attemptStruck k before kept) (closed k) → Replays (attemptStruck k before kept′) (closed k)
   struck-same idle before kept kept′ r t = r
   struck-same (awaitSetup q) before kept kept′ r t = t
   struck-same (up s b) before kept kept′ r t = r
@@ -47,19 +77,19 @@ module _ {Bearer Request Event : Type 0} (rule : Book Bearer Request → Event �
 
   -- once closed, nothing more is struck
   closed-same : (k : Book Bearer Request) (before before′ kept : List (LogLine Bearer Event))
-      → Replays (unattempted k before kept) (closed k) → Replays (unattempted (closed k) before′ (unattempted k before kept)) (closed (closed k))
+      → Replays (attemptStruck k before kept) (closed k) → Replays (attemptStruck (closed k) before′ (attemptStruck k before kept)) (closed (closed k))
   closed-same idle before before′ kept r = r
   closed-same (awaitSetup q) before before′ kept r = r
   closed-same (up s b) before before′ kept r = r
   closed-same (awaitChange s b q) before before′ kept r = r
 
-  module _ {exchanged : Event → Option Bearer} (laws : Laws rule exchanged) where
+  module _ {exchanged : Event → Option Bearer} (laws : Laws exchanged) where
     -- the lines that are left replay, and so do those that would be left with the open attempt struck
     abbrev Holds : Book Bearer Request → List (LogLine Bearer Event) → List (LogLine Bearer Event) → Type 0
-    Holds k before kept = Replays kept k × Replays (unattempted k before kept) (closed k)
+    Holds k before kept = Replays kept k × Replays (attemptStruck k before kept) (closed k)
 
     holds-more : (k : Book Bearer Request) (before kept : List (LogLine Bearer Event)) (e : Event) (v : Verdict Bearer Request) → rule k e ≡ v
-        → Holds k before kept → Holds (moved k v) (beforeAfter before kept v) (keptAfter k before kept (lineBy k e v) v)
+        → Holds k before kept → Holds (moved k v) (beforeOpen before kept v) (keptAfter k before kept (lineBy k e v) v)
     holds-more k before kept e (refused n) h (r, t) =
         let r′ = replays-more kept k (lineBy k e (refused n)) (refused n) h refl r in
         (r′, struck-same k before kept _ r′ t)
@@ -129,14 +159,14 @@ module _ {Bearer Request Event : Type 0} (rule : Book Bearer Request → Event �
     abbrev Parts : List (LogLine Bearer Event) → List (LogLine Bearer Event) → List (LogLine Bearer Event) → Type 0
     Parts before kept lines = Sublistᴰ before lines × Sublistᴰ kept lines
 
-    part-struck : (k : Book Bearer Request) (before kept lines : List (LogLine Bearer Event)) → Parts before kept lines → Sublistᴰ (unattempted k before kept) lines
+    part-struck : (k : Book Bearer Request) (before kept lines : List (LogLine Bearer Event)) → Parts before kept lines → Sublistᴰ (attemptStruck k before kept) lines
     part-struck idle before kept lines (x, y) = y
     part-struck (awaitSetup q) before kept lines (x, y) = x
     part-struck (up s b) before kept lines (x, y) = y
     part-struck (awaitChange s b q) before kept lines (x, y) = x
 
     parts-more : (k : Book Bearer Request) (before kept lines : List (LogLine Bearer Event)) (l : LogLine Bearer Event) (v : Verdict Bearer Request)
-        → Parts before kept lines → Parts (beforeAfter before kept v) (keptAfter k before kept l v) (lines ++ (l ∷ []))
+        → Parts before kept lines → Parts (beforeOpen before kept v) (keptAfter k before kept l v) (lines ++ (l ∷ []))
     parts-more k before kept lines l (refused n) (x, y) = (part-more l x, part-both l y)
     parts-more k before kept lines l discarded (x, y) = (part-more l x, part-both l y)
     parts-more k before kept lines l (opened q o) (x, y) = (part-more l y, part-both l y)
@@ -167,7 +197,7 @@ module _ {Bearer Request Event : Type 0} (rule : Book Bearer Request → Event �
         ∙ ap (λ (was : Option Bearer). inForceBy (replied k (rule k e)) was (exchanged e)) f
         ∙ sym (foldl-append (λ (was : Option Bearer) (l : LogLine Bearer Event). inForceBy (l .reply) was (exchanged (l .event))) none lines (logLine rule k e ∷ [])))
 
-    pub struck : (es : List Event) → Struck rule exchanged es
+    pub struck : (es : List Event) → Struck exchanged es
     unfolding logOf sheetOf
     struck es =
         let a = agree es idle [] [] [] (refl, refl) (Sublistᴰ·slnil, Sublistᴰ·slnil) refl in

@@ -12,7 +12,7 @@ use native.Mathlib.Omega.{arith}
 use Rattle.configuration.specs.declared.Codec.{Codec as Place}
 use Rattle.configuration.specs.declared.Config.{Config}
 use Rattle.configuration.specs.Configuration.{Codec, names, namedIn, entryIn}
-use Rattle.configuration.specs.Meaning.{codecBy, codecsBy}
+use Rattle.configuration.specs.Meaning.{codecBy, codecsBy, blankCodec, FoundAt}
 use Rattle.configuration.specs.Steps.{EntryCount}
 
 -- ---- how many there are
@@ -82,19 +82,28 @@ entry-is [] i d h = absurd (omega arith)
 entry-is (k ∷ ks) zero d h = refl
 entry-is (k ∷ ks) (suc i) d h = entry-is ks i d (omega arith)
 
+getD-any : {A : Type 0} (xs : List A) (i : ℕ) (d e : A) → i < length xs → getD xs i d ≡ getD xs i e
+getD-any [] i d e h = absurd (omega arith)
+getD-any (x ∷ xs) zero d e h = refl
+getD-any (x ∷ xs) (suc i) d e h = getD-any xs i d e (omega arith)
+
+-- k is the entry that is handed back
 module _ (c : Config) (n : ℕ) where
-  pub entry-zero : n < 1 → none ≡ entryIn (codecsBy c) n
+  pub entry-zero : (k : Place) → k ≡ blankCodec → n < 1 → FoundAt c n (record { known = false; codec = k })
   unfolding entryIn
-  entry-zero h = let z : n ≡ 0 = omega arith in rw z
+  entry-zero k b h = let z : n ≡ 0 = omega arith in record { is = rw z; codec = b }
 
   module _ (m : ℕ) (e : m ≡ length (codecsBy c)) where
-    pub entry-none : m < n → none ≡ entryIn (codecsBy c) n
-    entry-none h = sym (entry-past (codecsBy c) n (omega arith))
+    pub entry-none : (k : Place) → k ≡ blankCodec → m < n → FoundAt c n (record { known = false; codec = k })
+    entry-none k b h = record { is = sym (entry-past (codecsBy c) n (omega arith)); codec = b }
 
-    pub entry-some : (d : Place) → 1 ≤ n → n ≤ m → some (codecBy (getD (c .codecs) (n - 1) d)) ≡ entryIn (codecsBy c) n
+    pub entry-some : (d : Place) → 1 ≤ n → n ≤ m → FoundAt c n (record { known = true; codec = getD (c .codecs) (n - 1) d })
     entry-some d h k =
         let z : n ≡ suc (n - 1) = omega arith in
         let q : n - 1 < length (codecsBy c) = omega arith in
-        rw (← getD-codecs c (n - 1) d q, ← entry-is (codecsBy c) (n - 1) (codecBy d) q) (ap (entryIn (codecsBy c)) (sym z))
+        record {
+          is = rw (← getD-codecs c (n - 1) d q, ← entry-is (codecsBy c) (n - 1) (codecBy d) q) (ap (entryIn (codecsBy c)) (sym z));
+          codec = getD-any (c .codecs) (n - 1) d blankCodec (omega (arith, length-codecs c));
+        }
 
 pub ruleset entered = (entry-zero, entry-none, entry-some)

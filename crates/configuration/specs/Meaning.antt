@@ -1,10 +1,11 @@
 -- What the structs of this crate stand for. A count or a length that goes past its array stands for all of the array, and such
 -- a configuration can't be used.
-use Prim.Native.Nat.{ℕ}
+use Prim.Native.Nat.{ℕ, _-_}
+use mathlib.Core.Path.{_≡_}
 use mathlib.Core.List.{List, [], _∷_, map}
 use mathlib.Core.Bool.{Bool, true, _&&_, cond}
 use mathlib.Core.Option.{Option, none, some}
-use lib.ListN.{take}
+use lib.ListN.{take, getD, replicate}
 use lib.Dec.{leb}
 use Rattle.configuration.specs.declared.Format.{Format}
 use Rattle.configuration.specs.declared.Format.the-variants.{Payload, Named}
@@ -13,7 +14,7 @@ use Rattle.configuration.specs.declared.FoundCodec.{FoundCodec}
 use Rattle.configuration.specs.declared.Config.{Config}
 use Rattle.configuration.specs.declared.Checked.{Checked}
 use Rattle.configuration.specs.declared.Checked.the-variants.{Usable, Refused}
-use Rattle.configuration.specs.Configuration.{Codec, fixed, named, Configuration, mostName, mostCodecs, rightConfiguration}
+use Rattle.configuration.specs.Configuration.{Codec, fixed, named, Configuration, mostName, mostCodecs, rightConfiguration, entryIn}
 
 -- an entry whose name is in the array beside its format
 unfoldable pub formatBy : Format → List ℕ → Codec
@@ -37,9 +38,18 @@ configurationBy c = record {
   codecs = codecsBy c;
 }
 
--- an entry that was looked for
+-- an entry that says nothing: the payload 0, with zeros for a name
+abbrev pub blankCodec : Place
+blankCodec = record { format = Payload 0; name = replicate mostName 0 }
+
+-- the entry that was looked for, if it was found
 abbrev pub foundBy : FoundCodec → Option Codec
 foundBy e = cond (e .known) (some (codecBy (e .codec))) none
+
+-- r is codec entry n of c, counted from 1: as the array has it, and blank if there is no such entry
+pub record FoundAt (c : Config) (n : ℕ) (r : FoundCodec) : Type 0 where
+  pub is : foundBy r ≡ entryIn (codecsBy c) n
+  pub codec : r .codec ≡ cond (r .known) (getD (c .codecs) (n - 1) blankCodec) blankCodec
 
 -- ---- no count and no length goes past its array
 unfoldable pub formatInside : Format → Bool

@@ -1,13 +1,13 @@
 // The codec entries of a configuration.
 ghost use mathlib.Core.Path.{_≡_};
 ghost use Rattle.octets.specs.Append.{Appends};
-ghost use Rattle.configuration.specs.Configuration.{fixed, suits, nameOf, names, namedIn, entryIn};
-ghost use Rattle.configuration.specs.Meaning.{codecBy, codecsBy, foundBy};
+ghost use Rattle.configuration.specs.Configuration.{suits, nameOf, names, namedIn};
+ghost use Rattle.configuration.specs.Meaning.{codecBy, codecsBy, blankCodec, FoundAt};
 ghost use Rattle.configuration.specs.Steps.{EntryCount};
 use crate::Codec;
 use crate::Config;
-use crate::FoundCodec;
 use crate::Format;
+use crate::FoundCodec;
 use crate::MOST_CODECS;
 use crate::MOST_NAME;
 use octets::append::push;
@@ -88,7 +88,7 @@ pub fn names_any(c: Config, payload: u8, text: &[u8]) -> bool
 
 // Codec entry n, counted from 1.
 pub fn entry_at(c: Config, n: u16) -> FoundCodec
-    ensures { λ r. ⌜ foundBy r ≡ entryIn (codecsBy c) n ⌝ }
+    ensures { λ r. ⌜ FoundAt c n r ⌝ }
 {
     let count = entries(c);
     let at = n as usize;
@@ -111,7 +111,7 @@ pub fn entry_at(c: Config, n: u16) -> FoundCodec
 
 // An entry that says nothing.
 pub fn blank() -> Codec
-    ensures { λ r. ⌜ codecBy r ≡ fixed 0 ⌝ }
+    ensures { λ r. ⌜ r ≡ blankCodec ⌝ }
 {
     let name = [0u8; MOST_NAME];
     Codec {

@@ -12,7 +12,7 @@ use Rattle.book.specs.declared.Side.{Side}
 use Rattle.book.specs.declared.Side.the-variants.{I, R}
 use Rattle.book.specs.Book.{idle, awaitSetup, up, awaitChange, ignores, settled}
 use Rattle.book.specs.Book.{refused, discarded, opened, agreed, failed, released, requestConfused, requestRight, requestWrong}
-use Rattle.book.specs.Strike.{Laws}
+use Rattle.book.proofs.Struck.{Laws}
 use Rattle.media.specs.Stream.{Stream}
 use Rattle.ipbcp.specs.Writing as writing
 use Rattle.ipbcp.specs.Writing.{messageOctets}

@@ -25,11 +25,12 @@ use Rattle.configuration.specs.declared.Codec.{Codec as Place}
 use Rattle.configuration.specs.declared.FoundCodec.{FoundCodec}
 use Rattle.configuration.specs.declared.Config.{Config}
 use Rattle.configuration.specs.Configuration.{entryIn, suits, nameOf, ptimeNoneOrInRange, mostName}
-use Rattle.configuration.specs.Meaning.{formatBy, codecBy, codecsBy, configurationBy, foundBy}
+use Rattle.configuration.specs.Meaning.{formatBy, codecBy, codecsBy, configurationBy, blankCodec, FoundAt}
 use Rattle.bearer.specs.declared.Request.{Request}
 use Rattle.bearer.specs.Judging.{audio, rtpAvp, offered, commanded}
 use Rattle.bearer.specs.Meaning.{mostOffered, requestBy}
-use Rattle.judge.specs.Commands.{Commands, Offers}
+use Rattle.judge.specs.Commands.{Commands}
+use Rattle.judge.specs.Private.{Offers}
 
 -- ---- the Request for an entry
 pub appends-low : (l f : List ℕ) (at : ℕ) (vs : List ℕ) (r : ℕ) → Appends l at vs r f → at ≤ r
@@ -112,10 +113,10 @@ time-fits c t h most =
     omega (arith, leb-true t (c .most) (and-eq-true-iff (leb (c .least) t) (leb t (c .most)) .0 r .1)))
 
 -- ---- the command, whose entry is e; u says whether its fields suit the configuration
-module _ (c : Config) (n p t : ℕ) (e : FoundCodec) (is : foundBy e ≡ entryIn (codecsBy c) n)
+module _ (c : Config) (n p t : ℕ) (e : FoundCodec) (found : FoundAt c n e)
     (u : Bool) (says : u ≡ (e .known && (suits (codecBy (e .codec)) p && ptimeNoneOrInRange (configurationBy c) t))) where
   entry-is : (v : Bool) → e .known ≡ v → entryIn (codecsBy c) n ≡ cond v (some (codecBy (e .codec))) none
-  entry-is v a = rw a at (sym is)
+  entry-is v a = rw a at (sym (found .is))
 
   all-suit : u ≡ true → (e .known ≡ true) × (suits (codecBy (e .codec)) p ≡ true) × (ptimeNoneOrInRange (configurationBy c) t ≡ true)
   all-suit h =
@@ -135,17 +136,22 @@ module _ (c : Config) (n p t : ℕ) (e : FoundCodec) (is : foundBy e ≡ entryIn
   command-yes h v w payload time q o =
       let (a, b, d) = all-suit h in
       let r : requestBy q ≡ offered (configurationBy c) (codecBy (e .codec)) p t = rw (payload, time) at (o .is (configurationBy c) refl) in
-      record { is = rw (entry-is true a, b, d, r); inside = o .inside }
+      record { is = rw (entry-is true a, b, d, r); unsuited = λ f. absurd (no f); inside = o .inside }
+    where
+      no : true ≡ false → ⊥
+      no f = let z : _≡_ {A = ℕ} 0 1 = cc in omega arith
 
-  pub command-no : u ≡ false → (port : ℕ) (q : Request) → Offers port (codecBy (e .codec)) 0 0 q
+  -- the Request is then for the blank entry k
+  pub command-no : u ≡ false → (k : Place) → k ≡ blankCodec → (q : Request) → Offers (c .port) (codecBy k) 0 0 q
       → Commands (configurationBy c) n p t (record { suits = false; request = q })
-  unfolding commanded configurationBy Option·elim
-  command-no h port q o =
+  unfolding commanded configurationBy Option·elim formatBy
+  command-no h k b q o =
       record {
         is =
             by-bool (e .known) _
             (λ a. let f : (suits (codecBy (e .codec)) p && ptimeNoneOrInRange (configurationBy c) t) ≡ false = rw a at (sym says ∙ h) in rw (entry-is true a, f))
             (λ a. rw (entry-is false a));
+        unsuited = λ f. o .is (configurationBy c) refl ∙ rw b;
         inside = o .inside;
       }
 

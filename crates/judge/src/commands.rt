@@ -3,14 +3,16 @@ ghost use mathlib.Core.Path.{_≡_};
 ghost use mathlib.Core.Bool.{true, _&&_};
 ghost use Rattle.configuration.specs.Configuration.{suits, ptimeNoneOrInRange};
 ghost use Rattle.configuration.specs.Meaning.{codecBy, configurationBy};
-ghost use Rattle.judge.specs.Commands.{Commands, Offers};
+ghost use Rattle.judge.specs.Commands.{Commands};
+ghost use Rattle.judge.specs.Private.{Offers};
 use crate::Command;
 use bearer::MOST_OFFERED;
 use bearer::Request;
 use configuration::Codec;
 use configuration::Config;
-use configuration::FoundCodec;
 use configuration::Format;
+use configuration::FoundCodec;
+use configuration::codecs::blank;
 use configuration::codecs::entry_at;
 use configuration::codecs::push_name;
 use configuration::codecs::suits_entry;
@@ -18,7 +20,7 @@ use configuration::none_or_in_range;
 use octets::Span;
 use octets::append::push;
 
-// The Request for the entry k: "audio", "RTP/AVP" and the name stand one behind the other in its text.
+// The Request for the entry k: "audio", "RTP/AVP" and the name follow each other in its text.
 fn offer(port: u16, k: Codec, payload: u8, ptime: u8) -> Request
     ensures { λ r. ⌜ Offers port (codecBy k) payload ptime r ⌝ }
 {
@@ -90,6 +92,6 @@ pub fn request_for(c: Config, entry: u16, payload: u16, ptime: u16) -> Command
     }
     Command {
         suits: false,
-        request: offer(c.port, codec, 0, 0),
+        request: offer(c.port, blank(), 0, 0),
     }
 }

@@ -8,8 +8,8 @@ ghost use Rattle.bearer.specs.Hearing.{heard};
 ghost use Rattle.bearer.specs.Meaning.{heardIn};
 use bearer::Heard;
 use ipbcp::Head;
-use ipbcp::MessageType;
 use ipbcp::Message;
+use ipbcp::MessageType;
 
 // A message that is refused by 10: its type alone counts.
 fn hear_wrong(m: &[u8]) -> Heard

@@ -23,6 +23,9 @@ offer-requires c κs = search needs
 returns : tie.Need-returns
 returns c = search (commands, needs)
 
+blank-requires : tie.Need-blank-requires
+blank-requires c κs = search needs
+
 offer-requires-2 : tie.Need-offer-requires-2
 offer-requires-2 c κs = search needs
 
@@ -39,5 +42,6 @@ request-for-spec =
     time-for-requires
     offer-requires
     returns
+    blank-requires
     offer-requires-2
     returns-2)
