@@ -5,7 +5,7 @@ ghost use mathlib.Core.List.{[], _∷_};
 ghost use Rattle.octets.specs.Decimal.{readNumber};
 ghost use Rattle.octets.specs.Split.{partAt};
 ghost use Rattle.octets.specs.Words.{begins};
-ghost use Rattle.endpoint.specs.Rule.{Event};
+ghost use Rattle.endpoint.specs.Rule as rule;
 ghost use Rattle.trace_read.specs.Words.{fieldsOf};
 ghost use Rattle.trace_read.specs.Events.{bareOf, commandNumbers, commandOf, fieldsEvent};
 ghost use Rattle.trace_read.specs.Meaning.{askedBy, Asks};
@@ -51,7 +51,7 @@ fn three_numbers(s: &[u8]) -> ThreeNumbers
 
 // A set-up, by its numbers.
 fn set_up(s: &[u8]) -> Asked
-    ensures { λ r. ⌜ askedBy (now (s .entry)) r ≡ commandNumbers Event.setUp (fieldsOf (now (s .entry))) ⌝ }
+    ensures { λ r. ⌜ askedBy (now (s .entry)) r ≡ commandNumbers rule.setUp (fieldsOf (now (s .entry))) ⌝ }
 {
     match three_numbers(s) {
         ThreeNumbers::Numbers(entry, payload, ptime) => Asked::Event(Event::SetUp(entry, payload, ptime)),
@@ -61,7 +61,7 @@ fn set_up(s: &[u8]) -> Asked
 
 // A change, by its numbers.
 fn change(s: &[u8]) -> Asked
-    ensures { λ r. ⌜ askedBy (now (s .entry)) r ≡ commandNumbers Event.change (fieldsOf (now (s .entry))) ⌝ }
+    ensures { λ r. ⌜ askedBy (now (s .entry)) r ≡ commandNumbers rule.change (fieldsOf (now (s .entry))) ⌝ }
 {
     match three_numbers(s) {
         ThreeNumbers::Numbers(entry, payload, ptime) => Asked::Event(Event::Change(entry, payload, ptime)),
