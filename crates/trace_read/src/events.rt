@@ -55,7 +55,11 @@ fn set_up(s: &[u8]) -> Asked
     ensures { λ r. ⌜ askedBy (now (s .entry)) r ≡ commandNumbers rule.setUp (fieldsOf (now (s .entry))) ⌝ }
 {
     match three_numbers(s) {
-        ThreeNumbers::Numbers(entry, payload, ptime) => Asked::Event(Event::SetUp(entry, payload, ptime)),
+        ThreeNumbers::Numbers(entry, payload, ptime) => Asked::Event(Event::SetUp(
+            entry,
+            payload,
+            ptime,
+        )),
         ThreeNumbers::Wrong => Asked::Nothing,
     }
 }
@@ -65,7 +69,11 @@ fn change(s: &[u8]) -> Asked
     ensures { λ r. ⌜ askedBy (now (s .entry)) r ≡ commandNumbers rule.change (fieldsOf (now (s .entry))) ⌝ }
 {
     match three_numbers(s) {
-        ThreeNumbers::Numbers(entry, payload, ptime) => Asked::Event(Event::Change(entry, payload, ptime)),
+        ThreeNumbers::Numbers(entry, payload, ptime) => Asked::Event(Event::Change(
+            entry,
+            payload,
+            ptime,
+        )),
         ThreeNumbers::Wrong => Asked::Nothing,
     }
 }
