@@ -1,4 +1,4 @@
--- Laws of what the programs show: an empty list has a word of its own, and texts are appended one behind the other.
+-- Laws of what the programs show: an empty list is shown as a word, and texts are appended one after the other.
 -- Assumes nothing.
 use Prim.Native.Nat.{ℕ, zero, suc, _≤_, _<_, min}
 use mathlib.Core.Path.{_≡_, refl, sym, _∙_}
@@ -20,7 +20,8 @@ use Rattle.octets.proofs.CaseLaws.{by-bool, by-le}
 use Rattle.octets.proofs.AppendLaws.{append-then}
 use Rattle.media.specs.declared.Texts.{Texts}
 use Rattle.media.specs.Meaning.{spansOf, textsBy}
-use Rattle.notation.specs.Notation.{octetsShown, textShown, textsBehind, textsShown, refusedShown, lengthIn, largeIn}
+use Rattle.notation.specs.Notation.{octetsShown, textShown, textsAfter, textsShown, refusedShown, lengthIn}
+use Rattle.notation.specs.Private.{largeIn}
 
 -- ---- octets and texts
 module _ (s l f : List ℕ) (at r : ℕ) where
@@ -59,18 +60,18 @@ module _ (m l f : List ℕ) (x : Texts) (at r : ℕ) where
   texts-none h a = rw h a
 
   pub texts-one : x .count ≡ 1 → Appends l at (textShown (textOf m (x .first))) r f → Appends l at (textsShown (textsBy m x)) r f
-  unfolding textsShown textsBehind textsBy spansOf
+  unfolding textsShown textsAfter textsBy spansOf
   texts-one h a = rw (h, append-nil) a
 
   pub texts-two : (k : ℕ) (g : List ℕ) → x .count ≡ 2 → Appends g k (44 ∷ textShown (textOf m (x .second))) r f
       → Appends l at (textShown (textOf m (x .first))) k g → Appends l at (textsShown (textsBy m x)) r f
-  unfolding textsShown textsBehind textsBy spansOf
+  unfolding textsShown textsAfter textsBy spansOf
   texts-two k g h b a = rw (h, append-nil) (append-then l g f (textShown (textOf m (x .first))) (44 ∷ textShown (textOf m (x .second))) at k r b a)
 
   pub texts-three : (k : ℕ) (g : List ℕ) → (x .count ≡ 0 → ⊥) → (x .count ≡ 1 → ⊥) → (x .count ≡ 2 → ⊥)
       → Appends g k ((44 ∷ textShown (textOf m (x .second))) ++ (44 ∷ textShown (textOf m (x .third)))) r f
       → Appends l at (textShown (textOf m (x .first))) k g → Appends l at (textsShown (textsBy m x)) r f
-  unfolding textsShown textsBehind textsBy spansOf
+  unfolding textsShown textsAfter textsBy spansOf
   texts-three k g h₀ h₁ h₂ b a =
       let e : take (x .count) (x .first ∷ x .second ∷ x .third ∷ []) ≡ x .first ∷ x .second ∷ x .third ∷ [] = take-three (x .count) (omega arith) in
       rw (e, append-nil) (append-then l g f (textShown (textOf m (x .first))) ((44 ∷ textShown (textOf m (x .second))) ++ (44 ∷ textShown (textOf m (x .third)))) at k r b a)

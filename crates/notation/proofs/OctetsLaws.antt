@@ -1,4 +1,4 @@
--- Laws of reading octets: each turn takes a pair of digits off the text and puts one octet behind those that are there.
+-- Laws of reading octets: each step reads a pair of digits and puts one octet after those that are there.
 -- Assumes nothing.
 use Prim.Native.Nat.{ℕ, suc, _+_, _-_, _*_, _/_, _%_, _≤_, _<_, min}
 use mathlib.Core.Path.{_≡_, refl, sym, ap, _∙_}
@@ -20,11 +20,11 @@ append-none : (l : List ℕ) (j : ℕ) → appended l j [] ≡ l
 unfolding appended
 append-none l j = rw take-nil (put-nil l j)
 
--- whether the rest of the text is pairs of digits that find room behind j octets of a buffer of n
+-- whether the rest of the text is pairs of digits that fit after j octets of a buffer of n
 abbrev pub restFits : List ℕ → ℕ → ℕ → Bool
 restFits t j n = isHex (drop (j + j) t) && leb (length (drop (j + j) t) / 2) (n - j)
 
--- j octets of t are in the buffer l, in which l₀ was; most of them find room
+-- j octets of t are in the buffer l, in which l₀ was; at most `most` of them fit
 module _ (t l₀ l : List ℕ) (j most : ℕ) (room : most ≡ min (length t / 2) (length l₀)) (same : length l ≡ length l₀)
     (ans : restFits t j (length l) ≡ (isHex t && leb (length t / 2) (length l₀)))
     (buf : appended l j (octetsBefore (drop (j + j) t)) ≡ appended l₀ 0 (octetsBefore t)) where
@@ -123,7 +123,7 @@ read-back t l f r =
     let (e, g) = append-room l f 0 (hexOctets t) _ a (omega arith) in
     (h, rw (g, ← n) (take-at (hexOctets t) (drop (0 + length (hexOctets t)) l) (length (hexOctets t)) refl))
 
--- there is a fault in t, since it would have found room
+-- there is a fault in t, since its octets would fit
 pub read-wrong : (t l f : List ℕ) → ReadsOctets t l false f → length t / 2 ≤ length l → isHex t ≡ false
 read-wrong t l f r h =
     let w : false ≡ (isHex t && leb (length t / 2) (length l)) = r .answers in

@@ -1,12 +1,12 @@
-// How the programs show octets, texts and refusals, and how they are given the length of a buffer.
+// How the programs show octets, texts and refusals, and how they read octets and the length of a buffer.
 ghost use mathlib.Core.Path.{_≡_};
-ghost use mathlib.Core.List.{_∷_, _++_};
+ghost use mathlib.Core.List.{_++_};
 ghost use Prim.Native.Nat.{min};
-ghost use Rattle.octets.specs.Text.{char};
 ghost use Rattle.octets.specs.Append.{Appends};
 ghost use Rattle.octets.specs.Spans.{textOf};
 ghost use Rattle.media.specs.Meaning.{textsBy};
-ghost use Rattle.notation.specs.Notation.{octetsShown, textShown, textsShown, refusedShown, ReadsOctets, lengthIn, largeIn};
+ghost use Rattle.notation.specs.Notation.{octetsShown, textShown, textAfter, textsShown, refusedShown, ReadsOctets, lengthIn};
+ghost use Rattle.notation.specs.Private.{largeIn};
 use media::Texts;
 use octets::Number;
 use octets::Span;
@@ -19,7 +19,7 @@ use octets::hex::push_hex;
 use octets::spans::text;
 use octets::words::digit_run;
 
-// Appends octets as digits, none as `-`.
+// Appends octets as digits, or `-` if there are none.
 pub fn push_octets(s: &[u8], out: &mut [u8], at: usize) -> usize
     ensures { λ r. ⌜ Appends (now (out .entry)) at (octetsShown (now (s .entry))) r (now (out .exit)) ⌝ }
 {
@@ -29,7 +29,7 @@ pub fn push_octets(s: &[u8], out: &mut [u8], at: usize) -> usize
     push_hex(s, out, at)
 }
 
-// Appends a text as digits, an empty one as `empty`.
+// Appends a text as digits, or `empty` if it is empty.
 fn push_text(s: &[u8], out: &mut [u8], at: usize) -> usize
     ensures { λ r. ⌜ Appends (now (out .entry)) at (textShown (now (s .entry))) r (now (out .exit)) ⌝ }
 {
@@ -48,7 +48,7 @@ fn push_span(m: &[u8], sp: Span, out: &mut [u8], at: usize) -> usize
 
 // Appends a comma and the text of sp in m.
 fn push_next(m: &[u8], sp: Span, out: &mut [u8], at: usize) -> usize
-    ensures { λ r. ⌜ Appends (now (out .entry)) at (char "," ∷ textShown (textOf (now (m .entry)) sp)) r (now (out .exit)) ⌝ }
+    ensures { λ r. ⌜ Appends (now (out .entry)) at (textAfter (textOf (now (m .entry)) sp)) r (now (out .exit)) ⌝ }
 {
     let k = push_octet(b',', out, at);
     push_span(m, sp, out, k)
@@ -56,13 +56,13 @@ fn push_next(m: &[u8], sp: Span, out: &mut [u8], at: usize) -> usize
 
 // Appends two texts, a comma before each.
 fn push_both(m: &[u8], a: Span, b: Span, out: &mut [u8], at: usize) -> usize
-    ensures { λ r. ⌜ Appends (now (out .entry)) at ((char "," ∷ textShown (textOf (now (m .entry)) a)) ++ (char "," ∷ textShown (textOf (now (m .entry)) b))) r (now (out .exit)) ⌝ }
+    ensures { λ r. ⌜ Appends (now (out .entry)) at (textAfter (textOf (now (m .entry)) a) ++ textAfter (textOf (now (m .entry)) b)) r (now (out .exit)) ⌝ }
 {
     let k = push_next(m, a, out, at);
     push_next(m, b, out, k)
 }
 
-// Appends the texts of x in m with a comma between them, `-` where there is none.
+// Appends the texts of x in m with commas between them, or `-` if there are none.
 pub fn push_texts(m: &[u8], x: Texts, out: &mut [u8], at: usize) -> usize
     ensures { λ r. ⌜ Appends (now (out .entry)) at (textsShown (textsBy (now (m .entry)) x)) r (now (out .exit)) ⌝ }
 {
@@ -83,7 +83,7 @@ pub fn push_texts(m: &[u8], x: Texts, out: &mut [u8], at: usize) -> usize
     push_both(m, second, third, out, k)
 }
 
-// Appends a refusal by number n.
+// Appends a refusal with number n.
 pub fn push_refused(n: u8, out: &mut [u8], at: usize) -> usize
     ensures { λ r. ⌜ Appends (now (out .entry)) at (refusedShown n) r (now (out .exit)) ⌝ }
 {
@@ -101,8 +101,8 @@ pub fn smaller(a: usize, b: usize) -> usize
     a
 }
 
-// Puts the octets that the pairs of digits in t stand for at the front of dst, up to the first pair that is none or finds no
-// room. Says whether t is such pairs alone and all found room.
+// Puts the octets that the pairs of digits in t stand for at the front of dst, up to the first pair that is not two digits or
+// doesn't fit. Says whether t is only such pairs and all of them fit.
 pub fn read_octets(t: &[u8], dst: &mut [u8]) -> bool
     ensures { λ r. ⌜ ReadsOctets (now (t .entry)) (now (dst .entry)) r (now (dst .exit)) ⌝ }
 {
@@ -127,7 +127,7 @@ pub fn read_octets(t: &[u8], dst: &mut [u8]) -> bool
     t.len() % 2 == 0
 }
 
-// The length in a text that is no number up to 65535.
+// The length in a text that is not a number up to 65535.
 fn large(t: &[u8]) -> Number
     ensures { λ r. ⌜ r ≡ largeIn (now (t .entry)) ⌝ }
 {
@@ -143,7 +143,7 @@ fn large(t: &[u8]) -> Number
     Number::Bad
 }
 
-// The length of a buffer that t names. One above 65535 counts as 65535: nothing that the card writes needs more.
+// The length of a buffer that t names, capped at 65535: nothing that the card writes needs more.
 pub fn read_length(t: &[u8]) -> Number
     ensures { λ r. ⌜ r ≡ lengthIn (now (t .entry)) ⌝ }
 {

@@ -1,5 +1,5 @@
--- Whatever lines come, an endpoint that a trace runs has a configuration that can be used: each line of the configuration is judged
--- when it comes, and the first event finds one codec at least.
+-- Whatever lines come, an endpoint that a trace runs has a valid configuration: each line of the configuration is checked when it
+-- comes, and the first event is given to an endpoint only if there is a codec.
 -- Assumes nothing.
 use Prim.Native.Nat.{ℕ, _+_}
 use mathlib.Core.Path.{_≡_, refl, subst}
@@ -20,18 +20,17 @@ use Rattle.address.specs.declared.Parsed.{Parsed}
 use Rattle.address.specs.declared.Parsed.the-variants.{Unicast, Unreadable}
 use Rattle.address.specs.Kinds.{onParsed}
 use Rattle.configuration.specs.Configuration.{Codec, fixed, named, Configuration, mostCodecs, rightCodec, allRight, rightCodecs, rightGeneral, rightConfiguration}
-use Rattle.trace_read.specs.Configuring.{hostIn, general, usable, timesOf, generalFields, generalOf, generalIn, rightly, payloadOf, codecOf, withCodec, addedTo, codecFor, codecIn, isCodecLine}
-use Rattle.trace_read.specs.Words.{fieldsOf, generalWord}
-use Rattle.trace_read.specs.Events.{led}
-use Rattle.trace.specs.Trace.{Trace, start, configuring, running, stopped, TraceLine, judged, handled, lentTo, ran, silent, refusing, going, printedAfter, begun, wholly, stepped}
+use Rattle.trace_read.specs.Configuring.{hostIn, general, usable, generalFields, generalOf, generalIn, rightly, payloadOf, codecOf, withCodec, addedTo, codecFor, codecIn, isCodecLine}
+use Rattle.trace_read.specs.Words.{fieldsOf, firstIs, when, generalWord}
+use Rattle.trace.specs.Trace.{Trace, start, configuring, running, stopped, TraceLine, verdictEffect, eventEffect, configuringEffect, noCodec, firstEffect, lineEffect}
 use Rattle.trace.specs.declared.Phase.the-variants.{Running}
 use Rattle.trace.specs.declared.Session.{Session}
 use Rattle.trace.specs.declared.Stepped.{Stepped}
-use Rattle.configuration.specs.Meaning.{configurationBy, configInside, rightConfig}
+use Rattle.configuration.specs.Meaning.{configurationBy, rightConfig}
 use Rattle.trace.specs.Meaning.{traceIn, traceBy, Begins, Does}
 use Rattle.trace.specs.Right.{Begun, Right, Sound}
 
--- ---- what holds of something, if there is something
+-- ---- what holds of x, if there is an x
 record Each {A : Type 0} (P : A → Type 0) (x : Option A) : Type 0 where
   holds : (y : A) → x ≡ some y → P y
 
@@ -75,9 +74,9 @@ usable-begun own port least most t1 t2 =
     (λ h. record { general = h; codecs = refl; few = omega arith })
 
 general-begun : (s : List ℕ) → Each Begun (generalIn s)
-unfolding generalOf generalFields timesOf
+unfolding generalOf generalFields
 general-begun s =
-    each-cond Begun (eqb (length (fieldsOf s)) 7 && led generalWord (fieldsOf s)) _
+    each-cond Begun (eqb (length (fieldsOf s)) 7 && firstIs generalWord (fieldsOf s)) _
     (each-parsed Begun (hostIn (partAt 1 (fieldsOf s))) _
     (λ own. each-number Begun (readNumber (partAt 2 (fieldsOf s))) _
     (λ port. each-number Begun (readNumber (partAt 3 (fieldsOf s))) _
@@ -121,33 +120,34 @@ unfolding codecFor
 codec-begun c s b = each-cond Begun (eqb (length (fieldsOf s)) 2) _ (each-elim c b (codecOf (partAt 1 (fieldsOf s))) (codec-right (partAt 1 (fieldsOf s))))
 
 -- ---- the configuration goes on, or the first event comes
-going-right : (room : List ℕ) (whole : Bool) (x : Option Configuration) → Each Begun x → Right (going room (wholly whole x) .next)
-unfolding going wholly silent refusing
-going-right room false x h = tt
-going-right room true none h = tt
-going-right room true (some c) h = h .holds c refl
+configuring-right : (room : List ℕ) (whole : Bool) (x : Option Configuration) → Each Begun x → Right (configuringEffect room (when whole x) .next)
+unfolding configuringEffect
+configuring-right room false x h = tt
+configuring-right room true none h = tt
+configuring-right room true (some c) h = h .holds c refl
 
-codecs-right : (c : Configuration) → Begun c → eqb (length (c .codecs)) 0 ≡ false → rightConfiguration c ≡ true
+codecs-right : (c : Configuration) → Begun c → noCodec c ≡ false → rightConfiguration c ≡ true
 unfolding rightConfiguration rightCodecs
 codecs-right c b h =
     let n : (length (c .codecs) ≡ 0 → ⊥) = eqb-false (length (c .codecs)) 0 h in
     rw (b .general, b .codecs, le-leb 1 (length (c .codecs)) (omega (arith, n)), le-leb (length (c .codecs)) mostCodecs (b .few))
 
-begun-right : (d : Bool) (c : Configuration) (l : TraceLine) (room : List ℕ) → Begun c → Right (begun d c l room .next)
-unfolding begun printedAfter refusing ran lentTo handled judged
-begun-right d c l room b =
-    by-bool (eqb (length (c .codecs)) 0) _
+first-right : (d : Bool) (c : Configuration) (l : TraceLine) (room : List ℕ) → Begun c
+    → Right (cond (noCodec c) (configuringEffect room none) (firstEffect d c l room) .next)
+unfolding configuringEffect firstEffect eventEffect verdictEffect
+first-right d c l room b =
+    by-bool (noCodec c) _
     (λ h. rw h tt)
     (λ h. rw h (codecs-right c b h))
 
 -- ---- any line
-pub trace-right : (d : Bool) (t : Trace) (l : TraceLine) (room : List ℕ) → Right t → Right (stepped d t l room .next)
-unfolding stepped silent ran lentTo handled judged
-trace-right d start l room h = going-right room (l .whole) (generalIn (l .text)) (general-begun (l .text))
+pub trace-right : (d : Bool) (t : Trace) (l : TraceLine) (room : List ℕ) → Right t → Right (lineEffect d t l room .next)
+unfolding lineEffect eventEffect verdictEffect
+trace-right d start l room h = configuring-right room (l .whole) (generalIn (l .text)) (general-begun (l .text))
 trace-right d (configuring c) l room h =
     by-bool (isCodecLine (l .text)) _
-    (λ p. rw p (going-right room (l .whole) (codecIn c (l .text)) (codec-begun c (l .text) h)))
-    (λ p. rw p (begun-right d c l room h))
+    (λ p. rw p (configuring-right room (l .whole) (codecIn c (l .text)) (codec-begun c (l .text) h)))
+    (λ p. rw p (first-right d c l room h))
 trace-right d (running c k n) l room h = h
 trace-right d stopped l room h = tt
 
@@ -157,7 +157,7 @@ pub begun-sound : (s : Session) → Begins s → Sound s
 begun-sound s h = record { right = rw (h .is) tt; inside = h .inside }
 
 pub step-sound : (s : Session) (d : Bool) (l : TraceLine) (room room′ out out′ : List ℕ) (at : ℕ) (r : Stepped) → Sound s
-    → Does (configInside (s .endpoint .config)) (stepped d (traceBy s) l room) room′ out out′ at r → Sound (r .session)
+    → Does (s .endpoint) (lineEffect d (traceBy s) l room) room′ out out′ at r → Sound (r .session)
 step-sound s d l room room′ out out′ at r h x =
     record { right = rw (x .session) (trace-right d (traceBy s) l room (h .right)); inside = x .inside (h .inside) }
 

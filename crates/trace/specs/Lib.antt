@@ -1,5 +1,6 @@
--- `Trace` says what is printed for each line of a trace; `Meaning` what the code's structs stand for, `Right` what holds of the
--- configuration.
+-- What a trace prints, line by line: `Trace` says what each line does, `Meaning` what the code's structs stand for, `Right` what
+-- holds of the configuration. `Private` is used only by private functions.
 pub mod Trace
 pub mod Meaning
 pub mod Right
+pub mod Private

@@ -9,7 +9,7 @@ use Rattle.trace.specs.declared.Session.{Session}
 use Rattle.trace.specs.Meaning.{traceBy}
 use Rattle.trace.specs.Trace.{Trace, start, configuring, running, stopped}
 
--- the configuration can be used, but that it may have no codec yet
+-- the configuration is valid, except that it may have no codec yet
 pub record Begun (c : Configuration) : Type 0 where
   pub general : rightGeneral c ≡ true
   pub codecs : allRight (c .codecs) ≡ true
@@ -22,7 +22,7 @@ Right (configuring c) = Begun c
 Right (running c k n) = rightConfiguration c ≡ true
 Right stopped = Unit {0}
 
--- the same of the code's session, in whose configuration no count or length goes past its array
+-- the same of a session of the code; no count or length in its configuration goes past its array
 pub record Sound (s : Session) : Type 0 where
   pub right : Right (traceBy s)
   pub inside : configInside (s .endpoint .config) ≡ true

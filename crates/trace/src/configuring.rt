@@ -2,15 +2,14 @@
 ghost use mathlib.Core.Path.{_≡_};
 ghost use mathlib.Core.Bool.{not};
 ghost use mathlib.Core.Option.{none};
-ghost use lib.ListN.{length};
-ghost use lib.Dec.{eqb};
 ghost use Rattle.octets.specs.Append.{Appends};
-ghost use Rattle.book.specs.Book.{idle};
-ghost use Rattle.configuration.specs.Meaning.{configurationBy, configInside};
+ghost use Rattle.configuration.specs.Meaning.{configurationBy};
+ghost use Rattle.endpoint.specs.Step.{freshEndpoint};
+ghost use Rattle.trace_read.specs.Words.{when};
 ghost use Rattle.trace_read.specs.Configuring.{generalIn, codecIn};
-ghost use Rattle.trace_write.specs.Lines.{headerLine};
-ghost use Rattle.trace.specs.Trace.{configuring, ran, printedAfter, wholly, stepped, ending};
-ghost use Rattle.trace.specs.Meaning.{Does, Goes, Keeps, Unused};
+ghost use Rattle.trace.specs.Trace.{lineOf, noCodec, firstEffect, lineEffect, ending};
+ghost use Rattle.trace.specs.Meaning.{configurationOf, traceIn, Does};
+ghost use Rattle.trace.specs.Private.{Goes, kept};
 use crate::Phase;
 use crate::Session;
 use crate::Stepped;
@@ -23,25 +22,26 @@ use trace_read::configure::read_general;
 use trace_write::lines::push_header;
 use trace_write::lines::push_refused_line;
 
-// An endpoint with this configuration, to which nothing has happened. What has been configured line by line can be used.
+// An endpoint with this configuration, to which nothing has happened. The answer of `Endpoint::new` is not looked at: each line has been
+// checked when it came.
 fn fresh(config: Config) -> Endpoint
-    ensures { λ r. ⌜ Unused config r ⌝ }
+    ensures { λ r. ⌜ r ≡ freshEndpoint config ⌝ }
 {
     let opening = Endpoint::new(config);
     opening.endpoint
 }
 
-// There is a codec entry.
+// Whether there is a codec entry.
 fn has_codec(config: Config) -> bool
-    ensures { λ r. ⌜ r ≡ not (eqb (length (configurationBy config .codecs)) 0) ⌝ }
+    ensures { λ r. ⌜ r ≡ not (noCodec (configurationBy config)) ⌝ }
 {
     let first = entry_at(config, 1);
     first.known
 }
 
-// A session that goes on being configured.
+// A session with this configuration so far.
 fn keep(config: Config, at: usize) -> Stepped
-    ensures { λ r. ⌜ Keeps (configInside config) (configurationBy config) at r ⌝ }
+    ensures { λ r. ⌜ r ≡ kept config at ⌝ }
 {
     Stepped {
         session: Session {
@@ -54,9 +54,9 @@ fn keep(config: Config, at: usize) -> Stepped
 }
 
 impl Session {
-    // The configuration can't be used.
+    // Refuses the configuration.
     fn refuse(self, out: &mut [u8], at: usize) -> Stepped
-        ensures { λ r. ⌜ Goes (configInside (self .endpoint .config)) none (now (out .entry)) (now (out .exit)) at r ⌝ }
+        ensures { λ r. ⌜ Goes (self .endpoint) none (now (out .entry)) (now (out .exit)) at r ⌝ }
     {
         let k = push_refused_line(out, at);
         let endpoint = self.endpoint;
@@ -70,9 +70,9 @@ impl Session {
         }
     }
 
-    // The first line of all.
+    // The first line, which must be the `G` line.
     pub(crate) fn open(self, line: &[u8], whole: bool, out: &mut [u8], at: usize) -> Stepped
-        ensures { λ r. ⌜ Goes (configInside (self .endpoint .config)) (wholly whole (generalIn (now (line .entry)))) (now (out .entry)) (now (out .exit)) at r ⌝ }
+        ensures { λ r. ⌜ Goes (self .endpoint) (when whole (generalIn (now (line .entry)))) (now (out .entry)) (now (out .exit)) at r ⌝ }
     {
         if whole {
             let read = read_general(line);
@@ -86,9 +86,9 @@ impl Session {
         self.refuse(out, at)
     }
 
-    // A line in the run of `K` lines.
+    // A `K` line.
     fn add(self, line: &[u8], whole: bool, out: &mut [u8], at: usize) -> Stepped
-        ensures { λ r. ⌜ Goes (configInside (self .endpoint .config)) (wholly whole (codecIn (configurationBy (self .endpoint .config)) (now (line .entry)))) (now (out .entry)) (now (out .exit)) at r ⌝ }
+        ensures { λ r. ⌜ Goes (self .endpoint) (when whole (codecIn (configurationOf self) (now (line .entry)))) (now (out .entry)) (now (out .exit)) at r ⌝ }
     {
         if whole {
             let endpoint = self.endpoint;
@@ -104,7 +104,7 @@ impl Session {
         self.refuse(out, at)
     }
 
-    // The first event, which a fresh endpoint is given.
+    // The first event, which is given to a fresh endpoint.
     fn begin(
         self,
         detailed: bool,
@@ -114,7 +114,8 @@ impl Session {
         out: &mut [u8],
         at: usize,
     ) -> Stepped
-        ensures { λ r. ⌜ Does (configInside (self .endpoint .config)) (printedAfter headerLine (ran detailed (configurationBy (self .endpoint .config)) idle 0 (record { text = now (line .entry); whole = whole }) (now (room .entry)))) (now (room .exit)) (now (out .entry)) (now (out .exit)) at r ⌝ }
+        ensures { λ r. ⌜ Does (self .endpoint) (firstEffect detailed (configurationOf self) (lineOf (now (line .entry)) whole) (now (room .entry)))
+            (now (room .exit)) (now (out .entry)) (now (out .exit)) at r ⌝ }
     {
         let before = self.endpoint;
         let config = before.config;
@@ -127,7 +128,7 @@ impl Session {
         session.run(detailed, line, whole, room, out, k)
     }
 
-    // A line behind the `G` line.
+    // A line after the `G` line: a `K` line, or the first event.
     pub(crate) fn configure(
         self,
         detailed: bool,
@@ -137,7 +138,8 @@ impl Session {
         out: &mut [u8],
         at: usize,
     ) -> Stepped
-        ensures { λ r. ⌜ Does (configInside (self .endpoint .config)) (stepped detailed (configuring (configurationBy (self .endpoint .config))) (record { text = now (line .entry); whole = whole }) (now (room .entry))) (now (room .exit)) (now (out .entry)) (now (out .exit)) at r ⌝ }
+        ensures { λ r. ⌜ Does (self .endpoint) (lineEffect detailed (traceIn Phase.Configuring self) (lineOf (now (line .entry)) whole) (now (room .entry)))
+            (now (room .exit)) (now (out .entry)) (now (out .exit)) at r ⌝ }
     {
         if is_codec_line(line) {
             return self.add(line, whole, out, at);
@@ -151,7 +153,7 @@ impl Session {
 
     // The end of a configuration that no event follows.
     pub(crate) fn close(self, out: &mut [u8], at: usize) -> usize
-        ensures { λ r. ⌜ Appends (now (out .entry)) at (ending (configuring (configurationBy (self .endpoint .config)))) r (now (out .exit)) ⌝ }
+        ensures { λ r. ⌜ Appends (now (out .entry)) at (ending (traceIn Phase.Configuring self)) r (now (out .exit)) ⌝ }
     {
         let endpoint = self.endpoint;
         if has_codec(endpoint.config) {

@@ -1,21 +1,19 @@
 // The lines of events.
 ghost use mathlib.Core.Path.{_≡_};
-ghost use mathlib.Core.Bool.{cond};
 ghost use mathlib.Core.List.{[], _∷_, _++_};
 ghost use mathlib.Core.Option.{some};
-ghost use Prim.Native.Nat.{_≤_, _/_, min};
-ghost use lib.ListN.{length, take};
+ghost use Prim.Native.Nat.{_≤_, _/_};
+ghost use lib.ListN.{length};
 ghost use Rattle.octets.specs.Text.{lf};
 ghost use Rattle.octets.specs.Append.{Appends};
 ghost use Rattle.book.specs.States.{holdsAt};
-ghost use Rattle.configuration.specs.Meaning.{configurationBy, configInside};
 ghost use Rattle.bearer.specs.Meaning.{bearerBy, bearerIf};
-ghost use Rattle.endpoint.specs.Step.{bookOf, eventBy};
-ghost use Rattle.trace_read.specs.Words.{mostLine};
-ghost use Rattle.trace_read.specs.Events.{messageBy};
-ghost use Rattle.trace_write.specs.Detail.{detailText};
-ghost use Rattle.trace.specs.Trace.{printedLine, handled, wholeEvent, following, ran};
-ghost use Rattle.trace.specs.Meaning.{Does, Passes, DidFront, readyBy, writtenBy, forceBy};
+ghost use Rattle.endpoint.specs.Step.{eventBy};
+ghost use Rattle.trace_read.specs.Words.{when, mostLine};
+ghost use Rattle.trace_read.specs.Events.{lineEvent, messageBy};
+ghost use Rattle.trace.specs.Trace.{lineOf, detailIf, nextNumber, lineEffect};
+ghost use Rattle.trace.specs.Meaning.{traceIn, Does};
+ghost use Rattle.trace.specs.Private.{effectOn, Passes, DidFront, readyBy, writtenBy, forceBy, answerLine};
 use crate::Phase;
 use crate::Session;
 use crate::Stepped;
@@ -23,8 +21,8 @@ use bearer::Bearer;
 use book::State;
 use book::holds;
 use endpoint::Answer;
-use endpoint::Event;
 use endpoint::Endpoint;
+use endpoint::Event;
 use endpoint::Reply;
 use notation::read_octets;
 use notation::smaller;
@@ -44,7 +42,7 @@ const MOST_MESSAGE: usize = MOST_LINE / 2;
 
 // What a line asks of the endpoint, with a message's digits read.
 enum Ready {
-    // An event. The octets of a message, len of them, stand at the front of a buffer.
+    // An event. The octets of a message, `len` of them, are at the front of a buffer.
     Event { event: Event, len: usize },
     Nothing,
 }
@@ -64,7 +62,7 @@ fn written_by(reply: Reply) -> usize
     }
 }
 
-// Gives an event to the endpoint, with the first w octets of room. The message m counts for `Event::Message` alone.
+// Gives an event to the endpoint, with the first w octets of room. Only `Event::Message` looks at the message m.
 fn give(endpoint: Endpoint, event: Event, m: &[u8], room: &mut [u8], w: usize) -> Answer
     requires { ⌜ w ≤ length (now room) ⌝ }
     ensures { λ r. ⌜ DidFront endpoint (eventBy event (now (m .entry))) w (now (room .entry)) (now (room .exit)) r ⌝ }
@@ -72,9 +70,9 @@ fn give(endpoint: Endpoint, event: Event, m: &[u8], room: &mut [u8], w: usize) -
     endpoint.handle(event, m, &mut room[0..w])
 }
 
-// Appends the octets written and the bearer in force, where the trace is detailed.
+// Appends the octets written and the bearer in force, if the trace is detailed.
 fn push_more(detailed: bool, s: &[u8], state: State, b: Bearer, out: &mut [u8], at: usize) -> usize
-    ensures { λ r. ⌜ Appends (now (out .entry)) at (cond detailed (detailText (now (s .entry)) (bearerIf (holdsAt state) (bearerBy b))) []) r (now (out .exit)) ⌝ }
+    ensures { λ r. ⌜ Appends (now (out .entry)) at (detailIf detailed (now (s .entry)) (bearerIf (holdsAt state) (bearerBy b))) r (now (out .exit)) ⌝ }
 {
     if detailed {
         return push_detail(s, holds(state), b, out, at);
@@ -82,9 +80,9 @@ fn push_more(detailed: bool, s: &[u8], state: State, b: Bearer, out: &mut [u8], 
     at
 }
 
-// Appends what a detailed trace has more, and the LF.
+// Appends what a detailed trace adds, and the LF.
 fn push_end(detailed: bool, s: &[u8], endpoint: Endpoint, out: &mut [u8], at: usize) -> usize
-    ensures { λ r. ⌜ Appends (now (out .entry)) at (cond detailed (detailText (now (s .entry)) (forceBy endpoint)) [] ++ (lf ∷ [])) r (now (out .exit)) ⌝ }
+    ensures { λ r. ⌜ Appends (now (out .entry)) at (detailIf detailed (now (s .entry)) (forceBy endpoint) ++ (lf ∷ [])) r (now (out .exit)) ⌝ }
 {
     let state = endpoint.state;
     let b = endpoint.bearer;
@@ -92,7 +90,7 @@ fn push_end(detailed: bool, s: &[u8], endpoint: Endpoint, out: &mut [u8], at: us
     push_octet(b'\n', out, k)
 }
 
-// Line n, which is no event.
+// A line that is no event; its number is n.
 fn pass(endpoint: Endpoint, n: u64, detailed: bool, out: &mut [u8], at: usize) -> Stepped
     ensures { λ r. ⌜ Passes detailed endpoint n (now (out .entry)) (now (out .exit)) at r ⌝ }
 {
@@ -109,7 +107,7 @@ fn pass(endpoint: Endpoint, n: u64, detailed: bool, out: &mut [u8], at: usize) -
     }
 }
 
-// Appends line n, where the event has given this answer and its octets are in room. State is the one before it.
+// Appends the line of event n, whose answer is given and whose octets are in room. `state` is the state before the event.
 fn push_answer(
     n: u64,
     event: Event,
@@ -120,7 +118,7 @@ fn push_answer(
     out: &mut [u8],
     at: usize,
 ) -> usize
-    ensures { λ r. ⌜ Appends (now (out .entry)) at (printedLine detailed n (some (eventBy event [])) state (answer .reply) (take (writtenBy (answer .reply)) (now (room .entry))) (forceBy (answer .endpoint))) r (now (out .exit)) ⌝ }
+    ensures { λ r. ⌜ Appends (now (out .entry)) at (answerLine detailed n event state answer (now (room .entry))) r (now (out .exit)) ⌝ }
 {
     let reply = answer.reply;
     let endpoint = answer.endpoint;
@@ -128,7 +126,7 @@ fn push_answer(
     push_end(detailed, up_to(room, written_by(reply)), endpoint, out, k)
 }
 
-// Event n, with as many octets of room as are wanted, or all.
+// Event n, with as many octets of room as are wanted, or all of them.
 fn handle(
     endpoint: Endpoint,
     n: u64,
@@ -140,7 +138,8 @@ fn handle(
     out: &mut [u8],
     at: usize,
 ) -> Stepped
-    ensures { λ r. ⌜ Does (configInside (endpoint .config)) (handled detailed (configurationBy (endpoint .config)) (bookOf endpoint) n (some (eventBy event (now (m .entry)))) (now (room .entry)) (min wanted (length (now (room .entry))))) (now (room .exit)) (now (out .entry)) (now (out .exit)) at r ⌝ }
+    ensures { λ r. ⌜ Does endpoint (effectOn detailed endpoint n (some (eventBy event (now (m .entry)))) (now (room .entry)) wanted)
+        (now (room .exit)) (now (out .entry)) (now (out .exit)) at r ⌝ }
 {
     let state = endpoint.state;
     let w = smaller(wanted, room.len());
@@ -157,7 +156,7 @@ fn handle(
     }
 }
 
-// The event of a message, if t is its digits. Its octets then stand at the front of octets.
+// The event of a message, if t is its digits. Its octets are then at the front of `octets`.
 fn read_message(t: &[u8], octets: &mut [u8]) -> Ready
     requires { ⌜ length (now t) / 2 ≤ length (now octets) ⌝ }
     ensures { λ r. ⌜ readyBy (now (octets .exit)) r ≡ messageBy (now (t .entry)) ⌝ }
@@ -171,11 +170,11 @@ fn read_message(t: &[u8], octets: &mut [u8]) -> Ready
     Ready::Nothing
 }
 
-// The event of the line s, which stands without the prefix that names the length of a buffer. The octets of a message then stand
-// at the front of octets.
+// The event of the line s, without the prefix that names the length of a buffer. The octets of a message are then at the front
+// of `octets`.
 fn read_line(s: &[u8], whole: bool, octets: &mut [u8]) -> Ready
     requires { ⌜ mostLine / 2 ≤ length (now octets) ⌝ }
-    ensures { λ r. ⌜ readyBy (now (octets .exit)) r ≡ wholeEvent whole (now (s .entry)) ⌝ }
+    ensures { λ r. ⌜ readyBy (now (octets .exit)) r ≡ when whole (lineEvent (now (s .entry))) ⌝ }
 {
     if whole {
         let x = read_event(s);
@@ -188,9 +187,9 @@ fn read_line(s: &[u8], whole: bool, octets: &mut [u8]) -> Ready
     Ready::Nothing
 }
 
-// The number after n.
+// The number after n. Line numbers saturate at 2^64 - 1.
 fn next_number(n: u64) -> u64
-    ensures { λ r. ⌜ r ≡ following n ⌝ }
+    ensures { λ r. ⌜ r ≡ nextNumber n ⌝ }
 {
     if n < u64::MAX {
         return n + 1;
@@ -209,7 +208,8 @@ impl Session {
         out: &mut [u8],
         at: usize,
     ) -> Stepped
-        ensures { λ r. ⌜ Does (configInside (self .endpoint .config)) (ran detailed (configurationBy (self .endpoint .config)) (bookOf (self .endpoint)) (self .number) (record { text = now (line .entry); whole = whole }) (now (room .entry))) (now (room .exit)) (now (out .entry)) (now (out .exit)) at r ⌝ }
+        ensures { λ r. ⌜ Does (self .endpoint) (lineEffect detailed (traceIn Phase.Running self) (lineOf (now (line .entry)) whole) (now (room .entry)))
+            (now (room .exit)) (now (out .entry)) (now (out .exit)) at r ⌝ }
     {
         let lent = lend(detailed, line);
         let n = next_number(self.number);

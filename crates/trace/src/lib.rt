@@ -1,10 +1,9 @@
-// A trace, line by line: what is printed for a line, and what it leaves.
+// A trace, line by line: what a line prints, and what it leaves.
 mod configuring;
 mod events;
 
 ghost use Rattle.octets.specs.Append.{Appends};
-ghost use Rattle.configuration.specs.Meaning.{configInside};
-ghost use Rattle.trace.specs.Trace.{stepped, ending};
+ghost use Rattle.trace.specs.Trace.{lineOf, lineEffect, ending};
 ghost use Rattle.trace.specs.Meaning.{traceBy, Begins, Does};
 use endpoint::Endpoint;
 use trace_read::configure::read_general;
@@ -17,7 +16,7 @@ pub enum Phase {
     // The endpoint's configuration has those codecs that have come.
     Configuring,
     Running,
-    // The configuration can't be used, and nothing more is printed.
+    // The configuration was refused, and nothing more is printed.
     Stopped,
 }
 
@@ -49,8 +48,8 @@ impl Session {
         }
     }
 
-    // Appends to the `at` octets in out what is printed for the line, which stands without its LF; `whole` says whether LF ended it
-    // and all of it is there. Of room as many octets are lent to the line's event as it asks for.
+    // Appends what the line prints to the `at` octets in out. The line is without its LF; `whole` says whether an LF ended it and all
+    // of it is there. The line's event gets as many octets of room as the line asks for.
     pub fn step(
         self,
         detailed: bool,
@@ -60,7 +59,8 @@ impl Session {
         out: &mut [u8],
         at: usize,
     ) -> Stepped
-        ensures { λ r. ⌜ Does (configInside (self .endpoint .config)) (stepped detailed (traceBy self) (record { text = now (line .entry); whole = whole }) (now (room .entry))) (now (room .exit)) (now (out .entry)) (now (out .exit)) at r ⌝ }
+        ensures { λ r. ⌜ Does (self .endpoint) (lineEffect detailed (traceBy self) (lineOf (now (line .entry)) whole) (now (room .entry)))
+            (now (room .exit)) (now (out .entry)) (now (out .exit)) at r ⌝ }
     {
         let phase = self.phase;
         match phase {

@@ -1,4 +1,4 @@
--- Laws of what a `K` line adds: a payload or a name in the front of its array, and an entry behind those that a configuration has.
+-- Laws of what a `K` line adds: a payload or a name in the front of its array, and an entry after those that a configuration has.
 -- Assumes nothing.
 use Prim.Native.Nat.{ℕ, _+_, _≤_, _<_}
 use mathlib.Core.Path.{_≡_, refl, sym, _∙_}
@@ -27,7 +27,8 @@ use Rattle.configuration.specs.Meaning.{formatBy, codecBy, codecsBy, configurat
 use Rattle.configuration.proofs.EntryLaws.{length-codecs}
 use Rattle.trace_read.specs.declared.Configured.{Configured}
 use Rattle.trace_read.specs.Configuring.{rightly, payloadOf, codecOf, withCodec, addedTo, codecFor}
-use Rattle.trace_read.specs.Meaning.{configuredBy, Configures, Fails, Finds}
+use Rattle.trace_read.specs.Meaning.{configuredBy, Configures}
+use Rattle.trace_read.specs.Private.{Fails, Finds}
 use Rattle.trace_read.proofs.FieldLaws.{fields-are}
 use Rattle.trace_read.proofs.ConfigureLaws.{failed}
 

@@ -1,4 +1,4 @@
--- Laws of what a `G` line configures: a number that no octet holds is above all that can be used, so it is none either way.
+-- Laws of what a `G` line configures: a number that does not fit in an octet is above every valid one, so the line gives none either way.
 -- Assumes nothing.
 use Prim.Native.Nat.{ℕ, _≤_, _<_}
 use mathlib.Core.Path.{_≡_, refl, _∙_}
@@ -30,22 +30,22 @@ use Rattle.trace_read.specs.declared.configure.Small.{Small}
 use Rattle.trace_read.specs.declared.configure.Small.the-variants as small
 use Rattle.trace_read.specs.declared.configure.FourNumbers.{FourNumbers}
 use Rattle.trace_read.specs.declared.configure.FourNumbers.the-variants as four
-use Rattle.trace_read.specs.Configuring.{hostIn, general, usable, timesOf, generalFields, generalOf}
-use Rattle.trace_read.specs.Meaning.{configuredBy, Configures, Fails}
-use Rattle.trace_read.specs.Steps.{smallOf, onSmall, fourNumbers}
+use Rattle.trace_read.specs.Configuring.{hostIn, general, usable, generalFields, generalOf}
+use Rattle.trace_read.specs.Meaning.{configuredBy, Configures}
+use Rattle.trace_read.specs.Private.{Fails, smallOf, onSmall, fourNumbers, timesOf}
 use Rattle.trace_read.proofs.FieldLaws.{fields-are}
 
 pub wrong-is : (c : Config) → configInside c ≡ true → Fails (record { right = false; config = c })
 unfolding configuredBy
 wrong-is c i = record { is = refl; inside = i }
 
--- nothing counts in a configuration of no codecs
+-- a configuration with no codecs has no length to look at
 pub none-inside : (own : Address) (port least most t1 t2 : ℕ) (ks : List Place)
     → configInside (record { own = own; port = port; least = least; most = most; t1 = t1; t2 = t2; count = 0; codecs = ks }) ≡ true
 unfolding configInside allFormatsInside
 none-inside own port least most t1 t2 ks = refl
 
--- none is what x is
+-- r is none, and so is x
 pub failed : (b : Bool) (x : Option Configuration) (r : Configured) → Fails r → (configuredBy r ≡ none → configuredBy r ≡ x) → Configures b x r
 failed b x r f g = record { is = g (f .is); inside = λ h. f .inside }
 
@@ -53,7 +53,7 @@ failed b x r f g = record { is = g (f .is); inside = λ h. f .inside }
 pub same-configured : (b : Bool) (x y : Option Configuration) (r : Configured) → Configures b y r → (configuredBy r ≡ y → configuredBy r ≡ x) → Configures b x r
 same-configured b x y r f g = record { is = g (f .is); inside = f .inside }
 
--- ---- a number that an octet holds
+-- ---- a number that fits in an octet
 module _ (t : List ℕ) (x : Number) (e : x ≡ readNumber t) where
   pub small-bad : x ≡ Bad → small.Bad ≡ smallOf t
   unfolding smallOf onNumber
@@ -100,7 +100,7 @@ pub general-is : (own : Address) (port least most t1 t2 : ℕ) (ks : List Place)
 unfolding configuredBy usable general configurationBy codecsBy configInside allFormatsInside
 general-is own port least most t1 t2 ks t e = record { is = rw e; inside = λ h. refl }
 
--- ---- the numbers behind the address and the port
+-- ---- the numbers after the address and the port
 module _ (own : Address) (port a b c d : ℕ) where
   not-right : rightGeneral (general own port a b c d) ≡ false → usable (general own port a b c d) ≡ none
   unfolding usable
@@ -126,7 +126,7 @@ large-least : (a b : ℕ) → 255 < a → rightTimes a b ≡ false
 unfolding rightTimes
 large-least a b h = by-le b 255 _ (λ k. simp (lt-leb a b (omega arith), and-false)) (λ k. simp (lt-leb b 255 k, and-false))
 
--- what f makes of a number that no octet holds is what it makes of no number
+-- a number that does not fit in an octet is treated like no number
 small-step : {X : Type 0} (t : List ℕ) (f g : ℕ → X) (bad : X) → ((n : ℕ) → 255 < n → f n ≡ bad) → ((n : ℕ) → f n ≡ g n)
     → onNumber (readNumber t) f bad ≡ onSmall (smallOf t) g bad
 unfolding smallOf onSmall onNumber
@@ -197,7 +197,7 @@ module _ (ps : List (List ℕ)) (r : Configured) (a : Parsed) (e : a ≡ hostIn 
     fields-port p f = failed true _ r f (λ h. rw (← e, q, ← k, p) h)
 
     pub fields-times : (port : ℕ) → b ≡ Value port → Configures true (timesOf own port ps) r → Configures true (generalFields ps) r
-    unfolding generalFields onParsed onNumber
+    unfolding generalFields timesOf onParsed onNumber
     fields-times port p f = same-configured true _ _ r f (λ h. rw (← e, q, ← k, p) h)
 
 pub ruleset addressing = (fields-host, fields-port, fields-times)

@@ -25,7 +25,7 @@ use Rattle.trace_read.specs.declared.events.ThreeNumbers.{ThreeNumbers}
 use Rattle.trace_read.specs.declared.events.ThreeNumbers.the-variants.{Numbers, Wrong}
 use Rattle.trace_read.specs.Events.{bareOf, messageOf, commandNumbers, commandOf, fieldsEvent, lineEvent, messageBy}
 use Rattle.trace_read.specs.Meaning.{askedBy, Asks}
-use Rattle.trace_read.specs.Steps.{threeNumbers}
+use Rattle.trace_read.specs.Private.{threeNumbers}
 use Rattle.trace_read.specs.Words.{mostLine}
 use Rattle.trace_read.proofs.FieldLaws.{fields-are}
 

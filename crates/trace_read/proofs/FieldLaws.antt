@@ -1,4 +1,4 @@
--- Laws of a line's fields: what a call on a field answers, and how many fields there are.
+-- Laws of a line's fields: what reading a field gives, and how many fields there are.
 -- Assumes nothing.
 use Prim.Native.Nat.{ℕ, _+_}
 use mathlib.Core.Path.{_≡_, ap, _∙_}
@@ -16,7 +16,7 @@ use Rattle.address.specs.declared.Parsed.{Parsed}
 use Rattle.configuration.specs.Configuration.{Codec}
 use Rattle.trace_read.specs.Configuring.{hostIn, codecOf}
 
--- ---- a call on a field, which is p
+-- ---- reading a field, which is p
 module _ (p q : List ℕ) (e : p ≡ q) where
   pub number-of : (r : Number) → r ≡ readNumber p → r ≡ readNumber q
   number-of r k = k ∙ ap readNumber e

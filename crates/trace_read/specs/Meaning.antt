@@ -2,25 +2,24 @@
 use Prim.Native.Nat.{ℕ, _<_}
 use mathlib.Core.Path.{_≡_}
 use mathlib.Core.List.{List, []}
-use mathlib.Core.Bool.{Bool, true, cond}
+use mathlib.Core.Bool.{Bool, true}
 use mathlib.Core.Option.{Option, none, some}
 use lib.ListN.{length, drop}
-use Rattle.configuration.specs.declared.FoundCodec.{FoundCodec}
-use Rattle.configuration.specs.Configuration.{Codec, Configuration}
-use Rattle.configuration.specs.Meaning.{configurationBy, foundBy, formatInside, configInside}
+use Rattle.configuration.specs.Configuration.{Configuration}
+use Rattle.configuration.specs.Meaning.{configurationBy, configInside}
 use Rattle.endpoint.specs.Rule.{Event}
 use Rattle.endpoint.specs.Step.{eventBy}
 use Rattle.trace_read.specs.declared.Asked.{Asked}
 use Rattle.trace_read.specs.declared.Asked.the-variants.{Event as Named, Digits, Nothing}
 use Rattle.trace_read.specs.declared.Configured.{Configured}
 use Rattle.trace_read.specs.declared.Lent as places
-use Rattle.trace_read.specs.Words.{mostLine}
+use Rattle.trace_read.specs.Words.{mostLine, when}
 use Rattle.trace_read.specs.Events.{lineEvent, messageBy}
 use Rattle.trace_read.specs.Lending.{Lent}
 
--- the event that was read of the line s
+-- the event that was read from the line s
 unfoldable pub askedBy : List ℕ → Asked → Option Event
-askedBy s (Named call) = some (eventBy call [])
+askedBy s (Named event) = some (eventBy event [])
 askedBy s Digits = messageBy (drop 2 s)
 askedBy s Nothing = none
 
@@ -31,23 +30,13 @@ pub record Asks (s : List ℕ) (r : Asked) : Type 0 where
 
 -- the configuration that was read
 unfoldable pub configuredBy : Configured → Option Configuration
-configuredBy r = cond (r .right) (some (configurationBy (r .config))) none
+configuredBy r = when (r .right) (some (configurationBy (r .config)))
 
--- r is the configuration x, or none; no count or length in it goes past its array, where none did before
+-- r is the configuration x, or none; no count or length in it goes past its array, if none did before
 pub record Configures (before : Bool) (x : Option Configuration) (r : Configured) : Type 0 where
   pub is : configuredBy r ≡ x
   pub inside : before ≡ true → configInside (r .config) ≡ true
 
--- for the private functions: r is none, and no count or length in it goes past its array either
-pub record Fails (r : Configured) : Type 0 where
-  pub is : configuredBy r ≡ none
-  pub inside : configInside (r .config) ≡ true
-
--- for the private functions: r is the codec x, or none; the length of one that is known lies inside its array
-pub record Finds (x : Option Codec) (r : FoundCodec) : Type 0 where
-  pub is : foundBy r ≡ x
-  pub inside : r .known ≡ true → formatInside (r .codec .format) ≡ true
-
--- what is lent, and the event's line in s
+-- the length that was asked for, and the text of the event in the line s
 unfoldable pub lentBy : List ℕ → places.Lent → Lent
 lentBy s r = record { room = r .room; text = drop (r .at) s }

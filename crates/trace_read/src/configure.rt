@@ -5,9 +5,9 @@ ghost use mathlib.Core.Option.{none};
 ghost use Rattle.octets.specs.Split.{partAt};
 ghost use Rattle.configuration.specs.Meaning.{codecBy, configurationBy, formatInside, configInside};
 ghost use Rattle.trace_read.specs.Words.{fieldsOf};
-ghost use Rattle.trace_read.specs.Configuring.{hostIn, general, usable, timesOf, generalFields, generalIn, codecOf, payloadOf, rightly, addedTo, isCodecLine, codecIn};
-ghost use Rattle.trace_read.specs.Meaning.{Configures, Fails, Finds};
-ghost use Rattle.trace_read.specs.Steps.{smallOf, fourNumbers};
+ghost use Rattle.trace_read.specs.Configuring.{hostIn, general, usable, generalFields, generalIn, codecOf, payloadOf, rightly, addedTo, isCodecLine, codecIn};
+ghost use Rattle.trace_read.specs.Meaning.{Configures};
+ghost use Rattle.trace_read.specs.Private.{smallOf, fourNumbers, timesOf, Fails, Finds};
 ghost use Rattle.configuration.specs.Configuration.{named};
 use crate::Configured;
 use crate::events::number;
@@ -17,8 +17,8 @@ use address::ipv4::read_ipv4;
 use address::ipv6::read_ipv6;
 use configuration::Codec;
 use configuration::Config;
-use configuration::FoundCodec;
 use configuration::Format;
+use configuration::FoundCodec;
 use configuration::MOST_CODECS;
 use configuration::MOST_NAME;
 use configuration::check::right_codec;
@@ -32,7 +32,7 @@ use octets::parts::separators;
 use octets::words::digit_run;
 use octets::words::equals;
 
-// A number that an octet holds, or none.
+// A number that fits in an octet, or none.
 enum Small {
     Value(u8),
     Bad,
@@ -61,7 +61,7 @@ fn unread() -> Config
     }
 }
 
-// The number in field k of a line, where an octet holds it.
+// The number in field k of a line, if it fits in an octet.
 fn small_number(s: &[u8], k: usize) -> Small
     ensures { λ r. ⌜ r ≡ smallOf (partAt k (fieldsOf (now (s .entry)))) ⌝ }
 {
@@ -116,7 +116,7 @@ fn host(s: &[u8]) -> Parsed
     read_host(part(s, b'\t', 1))
 }
 
-// What can't be used.
+// No configuration.
 fn wrong() -> Configured
     ensures { λ r. ⌜ Fails r ⌝ }
 {
@@ -147,7 +147,7 @@ fn general_of(own: Address, port: u16, least: u8, most: u8, t1: u8, t2: u8) -> C
     }
 }
 
-// The configuration with this address and port, and the numbers behind them.
+// The configuration with this address and port, and the numbers after them.
 fn timed(s: &[u8], own: Address, port: u16) -> Configured
     ensures { λ r. ⌜ Configures true (timesOf own port (fieldsOf (now (s .entry)))) r ⌝ }
 {
@@ -172,7 +172,7 @@ fn addressed(s: &[u8]) -> Configured
     timed(s, own, port)
 }
 
-// The configuration of the `G` line s, which stands without its LF.
+// The configuration of the `G` line s, without its LF.
 pub fn read_general(s: &[u8]) -> Configured
     ensures { λ r. ⌜ Configures true (generalIn (now (s .entry))) r ⌝ }
 {
@@ -185,7 +185,7 @@ pub fn read_general(s: &[u8]) -> Configured
     wrong()
 }
 
-// The line stands in the run of `K` lines.
+// Whether the line is one of the `K` lines, right or wrong.
 pub fn is_codec_line(s: &[u8]) -> bool
     ensures { λ r. ⌜ r ≡ isCodecLine (now (s .entry)) ⌝ }
 {
@@ -276,7 +276,7 @@ fn add_codec(c: Config, codec: Codec) -> Configured
     }
 }
 
-// The configuration c with the codec of the line s more, which stands without its LF in the run of `K` lines.
+// The configuration c with the codec of the `K` line s added. The line is without its LF.
 pub fn read_codec_line(c: Config, s: &[u8]) -> Configured
     ensures { λ r. ⌜ Configures (configInside c) (codecIn (configurationBy c) (now (s .entry))) r ⌝ }
 {

@@ -4,12 +4,13 @@ ghost use mathlib.Core.Bool.{false};
 ghost use mathlib.Core.List.{[], _∷_};
 ghost use Rattle.octets.specs.Decimal.{readNumber};
 ghost use Rattle.octets.specs.Split.{partAt};
+ghost use Rattle.octets.specs.Text.{char, tab};
 ghost use Rattle.octets.specs.Words.{begins};
-ghost use Rattle.endpoint.specs.Rule.{Event};
+ghost use Rattle.endpoint.specs.Rule as rule;
 ghost use Rattle.trace_read.specs.Words.{fieldsOf};
 ghost use Rattle.trace_read.specs.Events.{bareOf, commandNumbers, commandOf, fieldsEvent};
 ghost use Rattle.trace_read.specs.Meaning.{askedBy, Asks};
-ghost use Rattle.trace_read.specs.Steps.{threeNumbers};
+ghost use Rattle.trace_read.specs.Private.{threeNumbers};
 use crate::Asked;
 use crate::MOST_LINE;
 use endpoint::Event;
@@ -51,20 +52,28 @@ fn three_numbers(s: &[u8]) -> ThreeNumbers
 
 // A set-up, by its numbers.
 fn set_up(s: &[u8]) -> Asked
-    ensures { λ r. ⌜ askedBy (now (s .entry)) r ≡ commandNumbers Event.setUp (fieldsOf (now (s .entry))) ⌝ }
+    ensures { λ r. ⌜ askedBy (now (s .entry)) r ≡ commandNumbers rule.setUp (fieldsOf (now (s .entry))) ⌝ }
 {
     match three_numbers(s) {
-        ThreeNumbers::Numbers(entry, payload, ptime) => Asked::Event(Event::SetUp(entry, payload, ptime)),
+        ThreeNumbers::Numbers(entry, payload, ptime) => Asked::Event(Event::SetUp(
+            entry,
+            payload,
+            ptime,
+        )),
         ThreeNumbers::Wrong => Asked::Nothing,
     }
 }
 
 // A change, by its numbers.
 fn change(s: &[u8]) -> Asked
-    ensures { λ r. ⌜ askedBy (now (s .entry)) r ≡ commandNumbers Event.change (fieldsOf (now (s .entry))) ⌝ }
+    ensures { λ r. ⌜ askedBy (now (s .entry)) r ≡ commandNumbers rule.change (fieldsOf (now (s .entry))) ⌝ }
 {
     match three_numbers(s) {
-        ThreeNumbers::Numbers(entry, payload, ptime) => Asked::Event(Event::Change(entry, payload, ptime)),
+        ThreeNumbers::Numbers(entry, payload, ptime) => Asked::Event(Event::Change(
+            entry,
+            payload,
+            ptime,
+        )),
         ThreeNumbers::Wrong => Asked::Nothing,
     }
 }
@@ -100,9 +109,9 @@ fn bare(s: &[u8]) -> Asked
     Asked::Nothing
 }
 
-// The event of a line that does not begin with the word of messages and a tab.
+// The event of a line that does not begin with `M` and a tab.
 fn other(s: &[u8]) -> Asked
-    requires { ⌜ begins (77 ∷ 9 ∷ []) (now s) ≡ false ⌝ }
+    requires { ⌜ begins (char "M" ∷ tab ∷ []) (now s) ≡ false ⌝ }
     ensures { λ r. ⌜ askedBy (now (s .entry)) r ≡ fieldsEvent (fieldsOf (now (s .entry))) ⌝ }
 {
     let n = separators(s, b'\t');
@@ -115,7 +124,7 @@ fn other(s: &[u8]) -> Asked
     Asked::Nothing
 }
 
-// The event of the line s, which stands without its LF. The digits of a message are not looked at.
+// The event of the line s, without its LF. The digits of a message are not read.
 pub fn read_event(s: &[u8]) -> Asked
     ensures { λ r. ⌜ Asks (now (s .entry)) r ⌝ }
 {

@@ -1,7 +1,7 @@
 // The output buffer that a line of a detailed trace asks for.
 ghost use mathlib.Core.Path.{_≡_};
 ghost use lib.ListN.{drop};
-ghost use Rattle.trace_read.specs.Lending.{usual, lentBehind, lentIn};
+ghost use Rattle.trace_read.specs.Lending.{usual, lentAfter, orUsual, lentIn};
 ghost use Rattle.trace_read.specs.Meaning.{lentBy};
 use crate::Lent;
 use crate::USUAL_ROOM;
@@ -10,7 +10,7 @@ use octets::Number;
 use octets::parts::find_from;
 use octets::words::starts;
 
-// What is lent where the line s says nothing.
+// What is lent if the line s doesn't say how much.
 fn usual_room(s: &[u8]) -> Lent
     ensures { λ r. ⌜ lentBy (now (s .entry)) r ≡ usual (now (s .entry)) ⌝ }
 {
@@ -20,9 +20,9 @@ fn usual_room(s: &[u8]) -> Lent
     }
 }
 
-// What is lent by the line s, behind its word and the tab.
-fn lend_behind(s: &[u8]) -> Lent
-    ensures { λ r. ⌜ lentBy (now (s .entry)) r ≡ lentBehind (now (s .entry)) (drop 2 (now (s .entry))) ⌝ }
+// What the line s asks for after `B` and its tab.
+fn lend_after(s: &[u8]) -> Lent
+    ensures { λ r. ⌜ lentBy (now (s .entry)) r ≡ orUsual (now (s .entry)) (lentAfter (drop 2 (now (s .entry)))) ⌝ }
 {
     let e = find_from(s, b'\t', 2);
     if s.len() <= e {
@@ -46,7 +46,7 @@ pub fn lend(detailed: bool, s: &[u8]) -> Lent
         return usual_room(s);
     }
     if starts(b"B\t", s) {
-        return lend_behind(s);
+        return lend_after(s);
     }
     usual_room(s)
 }

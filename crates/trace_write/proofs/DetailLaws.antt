@@ -1,4 +1,4 @@
--- Laws of a detailed trace: the fields of a bearer are appended one behind the other, a semicolon (59) before each but the address.
+-- Laws of a detailed trace: the fields of a bearer are appended one after the other, a semicolon (59) before each but the address.
 -- Assumes nothing.
 use Prim.Native.Nat.{ℕ}
 use mathlib.Core.Path.{_≡_}
@@ -16,7 +16,7 @@ use Rattle.bearer.specs.declared.Bearer as held
 use Rattle.bearer.specs.Bearer.{Bearer}
 use Rattle.bearer.specs.Meaning.{bearerBy, bearerIf}
 use Rattle.notation.specs.Notation.{octetsShown, textsShown}
-use Rattle.trace_write.specs.Detail.{mediaShown, attributesShown, bearerShown, forceShown, detailText}
+use Rattle.trace_write.specs.Detail.{mediaShown, attributesShown, streamShown, bearerShown, forceShown, detailText}
 
 -- ---- a semicolon and the text of a span
 module _ (t m : List ℕ) (sp : Span) (l g f : List ℕ) (at k r : ℕ) where
@@ -43,7 +43,7 @@ attributes-shown m s l g f at k r b a = append-then l g f _ _ at k r b a
 
 -- ---- a bearer
 pub bearer-shown : (b : held.Bearer) (l g f : List ℕ) (at k r : ℕ)
-    → Appends g k (mediaShown (streamBy (b .text) (b .stream)) ++ attributesShown (streamBy (b .text) (b .stream))) r f
+    → Appends g k (streamShown (streamBy (b .text) (b .stream))) r f
     → Appends l at (addressText (b .address)) k g → Appends l at (bearerShown (bearerBy b)) r f
 unfolding bearerShown bearerBy
 bearer-shown b l g f at k r q p = append-then l g f _ _ at k r q p

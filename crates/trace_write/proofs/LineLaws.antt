@@ -1,4 +1,4 @@
--- Laws of the lines: their fields are appended one behind the other, with a blank (32) between them.
+-- Laws of the lines: their fields are appended one after the other, with a blank (32) between them.
 -- Assumes nothing.
 use Prim.Native.Nat.{ℕ}
 use mathlib.Core.Path.{_≡_}
@@ -7,31 +7,30 @@ use mathlib.Core.Bool.{Bool}
 use mathlib.Core.Option.{Option, none, some}
 use Rattle.octets.specs.Append.{Appends, numberText}
 use Rattle.octets.proofs.AppendLaws.{append-then}
-use Rattle.notation.specs.Notation.{refusedShown}
 use Rattle.book.specs.declared.State.{State}
 use Rattle.book.specs.declared.Notice.{Notice}
 use Rattle.endpoint.specs.declared.Reply.{Reply}
 use Rattle.endpoint.specs.declared.Reply.the-variants.{Refused, Done}
 use Rattle.endpoint.specs.Rule.{Event}
-use Rattle.trace_write.specs.Words.{kindWord, badWord, stateWord, noticeWord, droppedWord}
-use Rattle.trace_write.specs.Lines.{kindField, numberAndKind, nothingText, replyText, eventText}
+use Rattle.trace_write.specs.Words.{kindWord, badWord, stateWord}
+use Rattle.trace_write.specs.Lines.{kindField, numberAndKind, refusalText, doneText, replyText, eventText}
 
 module _ (l g f : List ℕ) (at k r : ℕ) where
   -- a text and a blank, and another text
   pub blank-then : (x y : List ℕ) → Appends g k y r f → Appends l at (x ++ (32 ∷ [])) k g → Appends l at (x ++ (32 ∷ y)) r f
   blank-then x y q p = rw append-assoc at (append-then l g f (x ++ (32 ∷ [])) y at k r q p)
 
-  -- ---- what is behind the kind
-  pub reply-refused : (s : State) (p : Reply) (n : ℕ) → p ≡ Refused n → Appends g k (refusedShown n ++ nothingText) r f
+  -- ---- what comes after the kind
+  pub reply-refused : (s : State) (p : Reply) (n : ℕ) → p ≡ Refused n → Appends g k (refusalText n) r f
       → Appends l at (stateWord s ++ (32 ∷ [])) k g → Appends l at (replyText s p) r f
   unfolding replyText
-  reply-refused s p n e b a = rw e (blank-then (stateWord s) (refusedShown n ++ nothingText) b a)
+  reply-refused s p n e b a = rw e (blank-then (stateWord s) (refusalText n) b a)
 
   pub reply-done : (s t : State) (p : Reply) (n : Notice) (w : ℕ) (d : Bool) → p ≡ Done t n w d
-      → Appends g k (noticeWord n ++ (32 ∷ (droppedWord d ++ (32 ∷ numberText w)))) r f
+      → Appends g k (doneText n d w) r f
       → Appends l at (stateWord t ++ (32 ∷ [])) k g → Appends l at (replyText s p) r f
   unfolding replyText
-  reply-done s t p n w d e b a = rw e (blank-then (stateWord t) (noticeWord n ++ (32 ∷ (droppedWord d ++ (32 ∷ numberText w)))) b a)
+  reply-done s t p n w d e b a = rw e (blank-then (stateWord t) (doneText n d w) b a)
 
   -- ---- the number and the kind
   pub head-event : (n : ℕ) (e : Event) → Appends g k (kindWord e) r f → Appends l at (numberText n ++ (32 ∷ [])) k g

@@ -1,4 +1,4 @@
--- What a detailed trace has behind the line of an event: the octets written and the bearer in force, a blank before each.
+-- What a detailed trace adds to the line of an event: the octets written and the bearer in force, with a blank before each.
 use Prim.Native.Nat.{ℕ}
 use mathlib.Core.List.{List, [], _∷_, _++_}
 use mathlib.Core.Option.{Option, none, some}
@@ -9,22 +9,28 @@ use Rattle.media.specs.Stream.{Stream}
 use Rattle.bearer.specs.Bearer.{Bearer}
 use Rattle.notation.specs.Notation.{octetsShown, textsShown}
 
--- port, media, transport and payload, each after a semicolon
-unfoldable pub mediaShown : Stream → List ℕ
-mediaShown s = (char ";" ∷ numberText (s .port)) ++ ((char ";" ∷ s .media) ++ ((char ";" ∷ s .transport) ++ (char ";" ∷ numberText (s .payload))))
+-- ---- the bearer in force: address, port, media, transport, payload, rtpmap, fmtp and packet time, with semicolons between them
+-- a field after a semicolon
+abbrev pub field : List ℕ → List ℕ
+field t = char ";" ∷ t
 
--- rtpmap, fmtp and packet time so
+unfoldable pub mediaShown : Stream → List ℕ
+mediaShown s = field (numberText (s .port)) ++ (field (s .media) ++ (field (s .transport) ++ field (numberText (s .payload))))
+
 unfoldable pub attributesShown : Stream → List ℕ
-attributesShown s = (char ";" ∷ octetsShown (s .rtpmap)) ++ ((char ";" ∷ textsShown (s .fmtp)) ++ (char ";" ∷ numberText (s .ptime)))
+attributesShown s = field (octetsShown (s .rtpmap)) ++ (field (textsShown (s .fmtp)) ++ field (numberText (s .ptime)))
+
+abbrev pub streamShown : Stream → List ℕ
+streamShown s = mediaShown s ++ attributesShown s
 
 unfoldable pub bearerShown : Bearer → List ℕ
-bearerShown b = addressText (b .address) ++ (mediaShown (b .stream) ++ attributesShown (b .stream))
+bearerShown b = addressText (b .address) ++ streamShown (b .stream)
 
--- the bearer in force; none is `-`
+-- `-` if there is none
 unfoldable pub forceShown : Option Bearer → List ℕ
 forceShown none = ascii "-"
 forceShown (some b) = bearerShown b
 
--- o are the octets written
+-- ---- both; o are the octets written
 unfoldable pub detailText : List ℕ → Option Bearer → List ℕ
 detailText o force = (blank ∷ octetsShown o) ++ (blank ∷ forceShown force)

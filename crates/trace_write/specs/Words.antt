@@ -1,6 +1,6 @@
 -- Document 01, "Trace program": the words of the fields that are printed.
 use Prim.Native.Nat.{ℕ}
-use mathlib.Core.List.{List, [], _∷_}
+use mathlib.Core.List.{List}
 use mathlib.Core.Bool.{Bool, true, false}
 use Rattle.octets.specs.Text.{ascii}
 use Rattle.book.specs.declared.State.{State}

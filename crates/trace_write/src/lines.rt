@@ -1,12 +1,11 @@
-// The line of an event, without its LF, and what is printed of a configuration.
+// The line of an event, without its LF, and what is printed for a configuration.
 ghost use mathlib.Core.List.{[], _∷_, _++_};
 ghost use mathlib.Core.Option.{none, some};
 ghost use Rattle.octets.specs.Text.{blank};
 ghost use Rattle.octets.specs.Append.{Appends, numberText};
 ghost use Rattle.endpoint.specs.Step.{eventBy};
-ghost use Rattle.notation.specs.Notation.{refusedShown};
 ghost use Rattle.trace_write.specs.Words.{stateWord, noticeWord, droppedWord};
-ghost use Rattle.trace_write.specs.Lines.{headerLine, refusedLine, numberAndKind, nothingText, replyText, eventText};
+ghost use Rattle.trace_write.specs.Lines.{headerLine, refusedLine, numberAndKind, refusalText, doneText, replyText, eventText};
 use crate::words::push_dropped;
 use crate::words::push_kind;
 use crate::words::push_notice;
@@ -28,7 +27,7 @@ pub fn push_header(out: &mut [u8], at: usize) -> usize
     push(b"n event state notice dropped written\n", out, at)
 }
 
-// Appends what is printed of a configuration that can't be used.
+// Appends what is printed for a configuration that is refused.
 pub fn push_refused_line(out: &mut [u8], at: usize) -> usize
     ensures { λ r. ⌜ Appends (now (out .entry)) at refusedLine r (now (out .exit)) ⌝ }
 {
@@ -60,9 +59,9 @@ fn push_dropped_then(dropped: bool, out: &mut [u8], at: usize) -> usize
     push_octet(b' ', out, k)
 }
 
-// Appends what a refusal has behind the state.
+// Appends what a refusal has after the state.
 fn push_refusal(n: u8, out: &mut [u8], at: usize) -> usize
-    ensures { λ r. ⌜ Appends (now (out .entry)) at (refusedShown n ++ nothingText) r (now (out .exit)) ⌝ }
+    ensures { λ r. ⌜ Appends (now (out .entry)) at (refusalText n) r (now (out .exit)) ⌝ }
 {
     let k = push_refused(n, out, at);
     push(b" no 0", out, k)
@@ -76,15 +75,15 @@ fn push_written(dropped: bool, written: usize, out: &mut [u8], at: usize) -> usi
     push_number(written as u64, out, k)
 }
 
-// Appends what an event that is not refused has behind the state.
+// Appends what an event that is not refused has after the state.
 fn push_done(notice: Notice, dropped: bool, written: usize, out: &mut [u8], at: usize) -> usize
-    ensures { λ r. ⌜ Appends (now (out .entry)) at (noticeWord notice ++ (blank ∷ (droppedWord dropped ++ (blank ∷ numberText written)))) r (now (out .exit)) ⌝ }
+    ensures { λ r. ⌜ Appends (now (out .entry)) at (doneText notice dropped written) r (now (out .exit)) ⌝ }
 {
     let k = push_notice_then(notice, out, at);
     push_written(dropped, written, out, k)
 }
 
-// Appends a reply; state is the one that a refusal leaves.
+// Appends a reply; `state` is the state that a refusal leaves.
 fn push_reply(state: State, reply: Reply, out: &mut [u8], at: usize) -> usize
     ensures { λ r. ⌜ Appends (now (out .entry)) at (replyText state reply) r (now (out .exit)) ⌝ }
 {
@@ -109,7 +108,7 @@ fn push_reply(state: State, reply: Reply, out: &mut [u8], at: usize) -> usize
 fn push_head(number: u64, event: Event, out: &mut [u8], at: usize) -> usize
     ensures { λ r. ⌜ Appends (now (out .entry)) at (numberAndKind number (some (eventBy event []))) r (now (out .exit)) ⌝ }
 {
-    let k = push_number_then(number, 32, out, at);
+    let k = push_number_then(number, b' ', out, at);
     push_kind(event, out, k)
 }
 
@@ -117,19 +116,19 @@ fn push_head(number: u64, event: Event, out: &mut [u8], at: usize) -> usize
 fn push_bad_head(number: u64, out: &mut [u8], at: usize) -> usize
     ensures { λ r. ⌜ Appends (now (out .entry)) at (numberAndKind number none) r (now (out .exit)) ⌝ }
 {
-    let k = push_number_then(number, 32, out, at);
+    let k = push_number_then(number, b' ', out, at);
     push(b"bad", out, k)
 }
 
 // Appends a blank and a reply.
-fn push_behind(state: State, reply: Reply, out: &mut [u8], at: usize) -> usize
+fn push_after(state: State, reply: Reply, out: &mut [u8], at: usize) -> usize
     ensures { λ r. ⌜ Appends (now (out .entry)) at (blank ∷ replyText state reply) r (now (out .exit)) ⌝ }
 {
     let k = push_octet(b' ', out, at);
     push_reply(state, reply, out, k)
 }
 
-// Appends the line of an event; state is the endpoint's before it.
+// Appends the line of an event; `state` is the endpoint's state before it.
 pub fn push_event(
     number: u64,
     event: Event,
@@ -141,13 +140,13 @@ pub fn push_event(
     ensures { λ r. ⌜ Appends (now (out .entry)) at (eventText number (some (eventBy event [])) state reply) r (now (out .exit)) ⌝ }
 {
     let k = push_head(number, event, out, at);
-    push_behind(state, reply, out, k)
+    push_after(state, reply, out, k)
 }
 
-// Appends the line of what is no event.
+// Appends the line for a line that is no event.
 pub fn push_bad(number: u64, state: State, out: &mut [u8], at: usize) -> usize
     ensures { λ r. ⌜ Appends (now (out .entry)) at (eventText number none state (Reply.Refused 13)) r (now (out .exit)) ⌝ }
 {
     let k = push_bad_head(number, out, at);
-    push_behind(state, Reply::Refused(13), out, k)
+    push_after(state, Reply::Refused(13), out, k)
 }

@@ -1,4 +1,4 @@
--- `push_both` meets its contract. The second text is appended behind the first.
+-- `push_both` meets its contract. The second text is appended after the first.
 -- Assumes nothing.
 use borrow.Author.Needs.{needs}
 use Rattle.octets.proofs.AppendLaws.{append-then}

@@ -1,4 +1,4 @@
--- `push_next` meets its contract. The text is appended behind the comma.
+-- `push_next` meets its contract. The text is appended after the comma.
 -- Assumes nothing.
 use borrow.Author.Needs.{needs}
 use Rattle.octets.proofs.AppendLaws.{octet-then}

@@ -1,4 +1,4 @@
--- `push_octets` meets its contract. No octets have a sign of their own.
+-- `push_octets` meets its contract. If there are no octets, `-` is appended.
 -- Assumes nothing.
 use borrow.Author.Needs.{needs}
 use Rattle.notation.proofs.Laws.{shows}

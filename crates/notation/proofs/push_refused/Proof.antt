@@ -1,4 +1,4 @@
--- `push_refused` meets its contract. The number is appended behind the word.
+-- `push_refused` meets its contract. The number is appended after the word.
 -- Assumes nothing.
 use borrow.Author.Needs.{needs}
 use Rattle.notation.proofs.Laws.{refused-shown}

@@ -1,4 +1,4 @@
--- `push_text` meets its contract. An empty text has a word of its own.
+-- `push_text` meets its contract. An empty text is shown as a word.
 -- Assumes nothing.
 use borrow.Author.Needs.{needs}
 use Rattle.notation.proofs.Laws.{shows}

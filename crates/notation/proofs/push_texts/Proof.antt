@@ -1,4 +1,4 @@
--- `push_texts` meets its contract. Each text is appended behind those before it.
+-- `push_texts` meets its contract. Each text is appended after those before it.
 -- Assumes nothing.
 use borrow.Author.Needs.{needs}
 use Rattle.notation.proofs.Laws.{joins}

@@ -1,4 +1,4 @@
--- `read_length` meets its contract. A number up to 65535 is the length, and where there is none the rest of the definition decides.
+-- `read_length` meets its contract. A number up to 65535 is the length, otherwise the rest of the definition decides.
 -- Assumes nothing.
 use borrow.Author.Needs.{needs}
 use Rattle.notation.proofs.Laws.{lengths}

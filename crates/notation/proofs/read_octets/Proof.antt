@@ -1,4 +1,4 @@
--- `read_octets` meets its contract. What is left of the text and of the buffer decides at each turn.
+-- `read_octets` meets its contract. What is left of the text and of the buffer decides at each step.
 -- Assumes nothing.
 use Prim.Native.Nat.{_+_, _-_, _/_, _≤_}
 use mathlib.Core.Path.{_≡_}

@@ -1,7 +1,7 @@
 -- `Session::begin` meets its contract. The endpoint is fresh, and the line of field names comes first.
 -- Assumes nothing.
 use borrow.Author.Needs.{needs}
-use Rattle.trace.proofs.ConfiguringLaws.{begun-is}
+use Rattle.trace.proofs.ConfiguringLaws.{first-is}
 use Rattle.trace.proofs.Session.begin.Statement.{statement}
 use Rattle.trace.proofs.Session.begin.Tie as tie
 
@@ -21,7 +21,7 @@ same-length-2 : tie.Need-same-length-2
 same-length-2 c = search needs
 
 returns : tie.Need-returns
-returns c = search (begun-is, needs)
+returns c = search (first-is, needs)
 
 pub begin-spec : {M : Type 1} → statement M
 begin-spec =

@@ -1,4 +1,4 @@
--- `Session::configure` meets its contract. A line of the run, or the first event.
+-- `Session::configure` meets its contract. The line is a `K` line, or the first event.
 -- Assumes nothing.
 use borrow.Author.Needs.{needs}
 use Rattle.trace.proofs.ConfiguringLaws.{configureds}

@@ -1,4 +1,4 @@
--- `configuring::has_codec` meets its contract. The first entry tells.
+-- `configuring::has_codec` meets its contract. There is a codec if there is a first entry.
 -- Assumes nothing.
 use borrow.Author.Needs.{needs}
 use Rattle.trace.proofs.ConfiguringLaws.{codec-known}

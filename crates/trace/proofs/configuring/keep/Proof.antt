@@ -1,4 +1,4 @@
--- `configuring::keep` meets its contract. A fresh endpoint with the configuration stands for it.
+-- `configuring::keep` meets its contract. Its endpoint is the fresh one.
 -- Assumes nothing.
 use borrow.Author.Needs.{needs}
 use Rattle.trace.proofs.ConfiguringLaws.{kept-is}

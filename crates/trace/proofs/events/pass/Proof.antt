@@ -1,4 +1,4 @@
--- `events::pass` meets its contract. What is no event is refused by 13, and alters nothing.
+-- `events::pass` meets its contract. A line that is no event is refused with 13, and changes nothing.
 -- Assumes nothing.
 use borrow.Author.Needs.{needs}
 use Rattle.trace.proofs.EventLaws.{passed-is}

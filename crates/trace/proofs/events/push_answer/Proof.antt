@@ -1,4 +1,4 @@
--- `events::push_answer` meets its contract. The end of the line is appended behind its beginning.
+-- `events::push_answer` meets its contract. The end of the line is appended after its beginning.
 -- Assumes nothing.
 use borrow.Author.Needs.{needs}
 use Rattle.trace.proofs.EventLaws.{answer-line}

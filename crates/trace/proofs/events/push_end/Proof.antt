@@ -1,4 +1,4 @@
--- `events::push_end` meets its contract. The LF is appended behind the detail.
+-- `events::push_end` meets its contract. The LF is appended after the detail.
 -- Assumes nothing.
 use borrow.Author.Needs.{needs}
 use Rattle.octets.proofs.AppendLaws.{append-then}

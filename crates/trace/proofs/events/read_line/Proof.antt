@@ -1,4 +1,4 @@
--- `events::read_line` meets its contract: what the line asks for is told by its first test that holds.
+-- `events::read_line` meets its contract. The first test that holds decides what the line asks for.
 -- Assumes nothing.
 use borrow.Author.Needs.{needs}
 use Rattle.trace.proofs.events.read_line.Statement.{statement}

@@ -1,4 +1,4 @@
--- `events::read_message` meets its contract: the digits were read back, or are none.
+-- `events::read_message` meets its contract. The octets are those of the digits, or t is not pairs of digits.
 -- Assumes nothing.
 use borrow.Author.Needs.{needs}
 use Rattle.trace.proofs.events.read_message.Statement.{statement}

@@ -1,4 +1,4 @@
--- `configure::add_codec` meets its contract. The entry is stored behind those that the configuration has.
+-- `configure::add_codec` meets its contract. The entry is stored after those that the configuration has.
 -- Assumes nothing.
 use borrow.Author.Needs.{needs}
 use Rattle.trace_read.proofs.CodecLaws.{adds}

@@ -1,7 +1,7 @@
 -- `configure::four_numbers` meets its contract. The code reads the fields in the definition's order.
 -- Assumes nothing.
 use borrow.Author.Needs.{needs}
-use Rattle.trace_read.specs.Steps.{fourNumbers}
+use Rattle.trace_read.specs.Private.{fourNumbers}
 use Rattle.trace_read.proofs.ConfigureLaws.{onSmalls}
 use Rattle.trace_read.proofs.configure.four_numbers.Statement.{statement}
 use Rattle.trace_read.proofs.configure.four_numbers.Tie as tie

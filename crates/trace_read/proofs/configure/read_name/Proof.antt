@@ -1,4 +1,4 @@
--- `configure::read_name` meets its contract. The name stands at the front of its array.
+-- `configure::read_name` meets its contract. The name is at the front of its array.
 -- Assumes nothing.
 use borrow.Author.Needs.{needs}
 use Rattle.trace_read.proofs.CodecLaws.{names}

@@ -1,4 +1,4 @@
--- `configure::wrong` meets its contract. What is not right stands for nothing.
+-- `configure::wrong` meets its contract. A configuration that is not right gives none.
 -- Assumes nothing.
 use borrow.Author.Needs.{needs}
 use Rattle.trace_read.proofs.ConfigureLaws.{wrong-is}

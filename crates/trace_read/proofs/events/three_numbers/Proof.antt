@@ -2,7 +2,7 @@
 -- Assumes nothing.
 use borrow.Author.Needs.{needs}
 use Rattle.octets.proofs.DecimalLaws.{onNumbers}
-use Rattle.trace_read.specs.Steps.{threeNumbers}
+use Rattle.trace_read.specs.Private.{threeNumbers}
 use Rattle.trace_read.proofs.events.three_numbers.Statement.{statement}
 use Rattle.trace_read.proofs.events.three_numbers.Tie as tie
 

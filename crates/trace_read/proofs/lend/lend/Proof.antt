@@ -17,8 +17,8 @@ slice-aggregate-starts c = search needs
 starts-requires : tie.Need-starts-requires
 starts-requires c κs = search needs
 
-lend-behind-requires : tie.Need-lend-behind-requires
-lend-behind-requires c κs = search needs
+lend-after-requires : tie.Need-lend-after-requires
+lend-after-requires c κs = search needs
 
 returns-2 : tie.Need-returns-2
 returns-2 c = search (lends, needs)
@@ -37,7 +37,7 @@ lend-spec =
     returns
     slice-aggregate-starts
     starts-requires
-    lend-behind-requires
+    lend-after-requires
     returns-2
     usual-room-requires-2
     returns-3)

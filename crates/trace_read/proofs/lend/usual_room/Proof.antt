@@ -1,4 +1,4 @@
--- `lend::usual_room` meets its contract. The line stands as it is.
+-- `lend::usual_room` meets its contract. The line is used as it is.
 -- Assumes nothing.
 use borrow.Author.Needs.{needs}
 use Rattle.trace_read.proofs.LendLaws.{usual-is}

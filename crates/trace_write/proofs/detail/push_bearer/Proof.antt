@@ -1,4 +1,4 @@
--- `detail::push_bearer` meets its contract. The stream is appended behind the address.
+-- `detail::push_bearer` meets its contract. The stream is appended after the address.
 -- Assumes nothing.
 use borrow.Author.Needs.{needs}
 use Rattle.trace_write.proofs.DetailLaws.{bearer-shown}

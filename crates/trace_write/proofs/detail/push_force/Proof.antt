@@ -1,4 +1,4 @@
--- `detail::push_force` meets its contract. The bearer is appended where one is in force, else the hyphen.
+-- `detail::push_force` meets its contract. The bearer is appended if one is in force, otherwise the hyphen.
 -- Assumes nothing.
 use borrow.Author.Needs.{needs}
 use Rattle.trace_write.proofs.DetailLaws.{forces}

@@ -1,4 +1,4 @@
--- `detail::push_format` meets its contract. The packet time is appended behind the texts.
+-- `detail::push_format` meets its contract. The packet time is appended after the texts.
 -- Assumes nothing.
 use borrow.Author.Needs.{needs}
 use Rattle.octets.proofs.AppendLaws.{append-then}

@@ -1,4 +1,4 @@
--- `detail::push_media` meets its contract. The fields are appended one behind the other.
+-- `detail::push_media` meets its contract. The fields are appended one after the other.
 -- Assumes nothing.
 use borrow.Author.Needs.{needs}
 use Rattle.trace_write.proofs.DetailLaws.{media-shown}

@@ -1,4 +1,4 @@
--- `detail::push_number_field` meets its contract. The number is appended behind the semicolon.
+-- `detail::push_number_field` meets its contract. The number is appended after the semicolon.
 -- Assumes nothing.
 use borrow.Author.Needs.{needs}
 use Rattle.octets.proofs.AppendLaws.{octet-then}

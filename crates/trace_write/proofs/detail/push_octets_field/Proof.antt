@@ -1,4 +1,4 @@
--- `detail::push_octets_field` meets its contract. The octets of the span are appended behind the semicolon.
+-- `detail::push_octets_field` meets its contract. The octets of the span are appended after the semicolon.
 -- Assumes nothing.
 use borrow.Author.Needs.{needs}
 use Rattle.trace_write.proofs.DetailLaws.{octets-field}

@@ -1,4 +1,4 @@
--- `detail::push_profile` meets its contract. The payload is appended behind the transport.
+-- `detail::push_profile` meets its contract. The payload is appended after the transport.
 -- Assumes nothing.
 use borrow.Author.Needs.{needs}
 use Rattle.octets.proofs.AppendLaws.{append-then}

@@ -1,4 +1,4 @@
--- `detail::push_stream` meets its contract. The attributes are appended behind the media line's fields.
+-- `detail::push_stream` meets its contract. The attributes are appended after the media line's fields.
 -- Assumes nothing.
 use borrow.Author.Needs.{needs}
 use Rattle.octets.proofs.AppendLaws.{append-then}

@@ -1,4 +1,4 @@
--- `detail::push_text_field` meets its contract. The text of the span is appended behind the semicolon.
+-- `detail::push_text_field` meets its contract. The text of the span is appended after the semicolon.
 -- Assumes nothing.
 use borrow.Author.Needs.{needs}
 use Rattle.trace_write.proofs.DetailLaws.{text-field}

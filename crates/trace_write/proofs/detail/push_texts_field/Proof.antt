@@ -1,4 +1,4 @@
--- `detail::push_texts_field` meets its contract. The texts are appended behind the semicolon.
+-- `detail::push_texts_field` meets its contract. The texts are appended after the semicolon.
 -- Assumes nothing.
 use borrow.Author.Needs.{needs}
 use Rattle.octets.proofs.AppendLaws.{octet-then}

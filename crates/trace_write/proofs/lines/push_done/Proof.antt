@@ -1,4 +1,4 @@
--- `lines::push_done` meets its contract. The rest is appended behind the notice and its blank.
+-- `lines::push_done` meets its contract. The rest is appended after the notice and its blank.
 -- Assumes nothing.
 use borrow.Author.Needs.{needs}
 use Rattle.trace_write.proofs.LineLaws.{blank-then}

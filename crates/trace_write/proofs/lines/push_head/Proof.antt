@@ -1,4 +1,4 @@
--- `lines::push_head` meets its contract. The kind is appended behind the number and its blank.
+-- `lines::push_head` meets its contract. The kind is appended after the number and its blank.
 -- Assumes nothing.
 use borrow.Author.Needs.{needs}
 use Rattle.trace_write.proofs.LineLaws.{head-event}

@@ -1,4 +1,4 @@
--- `lines::push_refusal` meets its contract. The refusal and what follows it are appended one behind the other.
+-- `lines::push_refusal` meets its contract. The refusal and what follows it are appended one after the other.
 -- Assumes nothing.
 use borrow.Author.Needs.{needs}
 use Rattle.octets.proofs.AppendLaws.{append-then}

@@ -1,4 +1,4 @@
--- `lines::push_refused_line` meets its contract. The refusal and the LF are appended one behind the other.
+-- `lines::push_refused_line` meets its contract. The refusal and the LF are appended one after the other.
 -- Assumes nothing.
 use borrow.Author.Needs.{needs}
 use Rattle.octets.proofs.AppendLaws.{append-then}

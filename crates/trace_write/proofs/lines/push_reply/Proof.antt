@@ -1,4 +1,4 @@
--- `lines::push_reply` meets its contract. A refusal leaves the state; else the reply has the one after the event.
+-- `lines::push_reply` meets its contract. A refusal leaves the state; otherwise the reply has the state after the event.
 -- Assumes nothing.
 use borrow.Author.Needs.{needs}
 use Rattle.trace_write.proofs.LineLaws.{replies}

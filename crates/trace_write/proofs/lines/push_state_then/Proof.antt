@@ -1,4 +1,4 @@
--- `lines::push_state_then` meets its contract. The word and the blank are appended one behind the other.
+-- `lines::push_state_then` meets its contract. The word and the blank are appended one after the other.
 -- Assumes nothing.
 use borrow.Author.Needs.{needs}
 use Rattle.octets.proofs.AppendLaws.{append-then}

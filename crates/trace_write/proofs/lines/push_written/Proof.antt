@@ -1,4 +1,4 @@
--- `lines::push_written` meets its contract. The number is appended behind the word and its blank.
+-- `lines::push_written` meets its contract. The number is appended after the word and its blank.
 -- Assumes nothing.
 use borrow.Author.Needs.{needs}
 use Rattle.trace_write.proofs.LineLaws.{blank-then}

@@ -1,9 +1,9 @@
--- `lend::lend_behind` meets its contract. The next tab ends the length.
+-- `lend::lend_after` meets its contract. The next tab ends the length.
 -- Assumes nothing.
 use borrow.Author.Needs.{needs}
 use Rattle.trace_read.proofs.LendLaws.{lendings}
-use Rattle.trace_read.proofs.lend.lend_behind.Statement.{statement}
-use Rattle.trace_read.proofs.lend.lend_behind.Tie as tie
+use Rattle.trace_read.proofs.lend.lend_after.Statement.{statement}
+use Rattle.trace_read.proofs.lend.lend_after.Tie as tie
 
 find-from-requires : tie.Need-find-from-requires
 find-from-requires c κs = search needs
@@ -47,8 +47,8 @@ returns-2 c = search (lendings, needs)
 returns-3 : tie.Need-returns-3
 returns-3 c = search (lendings, needs)
 
-pub lend-behind-spec : {M : Type 1} → statement M
-lend-behind-spec =
+pub lend-after-spec : {M : Type 1} → statement M
+lend-after-spec =
     tie.close
     (tie.spec
     find-from-requires

@@ -1,9 +1,9 @@
--- `detail::push_octets_behind` meets its contract. The octets are appended behind the blank.
+-- `detail::push_octets_after` meets its contract. The octets are appended after the blank.
 -- Assumes nothing.
 use borrow.Author.Needs.{needs}
 use Rattle.octets.proofs.AppendLaws.{octet-then}
-use Rattle.trace_write.proofs.detail.push_octets_behind.Statement.{statement}
-use Rattle.trace_write.proofs.detail.push_octets_behind.Tie as tie
+use Rattle.trace_write.proofs.detail.push_octets_after.Statement.{statement}
+use Rattle.trace_write.proofs.detail.push_octets_after.Tie as tie
 
 push-octet-requires : tie.Need-push-octet-requires
 push-octet-requires c κs = search needs
@@ -17,6 +17,6 @@ same-length c = search needs
 returns : tie.Need-returns
 returns c = search (octet-then, needs)
 
-pub push-octets-behind-spec : {M : Type 1} → statement M
-push-octets-behind-spec =
+pub push-octets-after-spec : {M : Type 1} → statement M
+push-octets-after-spec =
     tie.close (tie.spec push-octet-requires push-octets-requires same-length returns)
