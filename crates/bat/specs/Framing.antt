@@ -65,8 +65,8 @@ pub data Front : Type 0 where
   unframed : Front
   ended : Front
 
--- The length counts s, which is compatibility and contents; t follows it. Framing fails if the compatibility does not
--- end inside s.
+-- The length counts s, which holds compatibility and contents; t follows it. There is no element if every octet of s has
+-- bit 8 clear, since its compatibility would go on past s.
 unfoldable pub countedBy : ℕ → List ℕ → List ℕ → List ℕ → Front
 countedBy i size s t =
     cond (ltb (unmarked s) (length s))
@@ -79,7 +79,7 @@ countedBy i size s t =
     }) t)
     unframed
 
--- It also fails if the length n is 0, or if the element goes past the end of t.
+-- Nor is there one if the length n is 0, or counts more octets than t has.
 unfoldable pub elementBy : ℕ → List ℕ → ℕ → List ℕ → Front
 elementBy i size n t =
     cond (eqb n 0) unframed

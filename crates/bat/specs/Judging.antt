@@ -47,7 +47,7 @@ unfoldable pub judgement : Bool → ℕ → ℕ → ℕ → Judgement
 judgement pass i c index =
     record { outcome = outcomeOf pass c; notice = noticeOf pass c; diagnostic = record { identifier = i; index = index } }
 
--- What is found of an element: its value, or the judgement of an unrecognised one.
+-- The finding on an element: its value, or the judgement of an unrecognised one.
 pub data Finding : Type 0 where
   known : Value → Finding
   unknown : Judgement → Finding
@@ -83,8 +83,8 @@ unfoldable pub someSays : ℕ → List Finding → Bool
 someSays n [] = false
 someSays n (v ∷ vs) = says n v || someSays n vs
 
--- The data's outcome: release (3) if any element says so, otherwise discard the data (2) if any does, otherwise
--- neither (0).
+-- One element that asks for release (3) is enough for it. Without one, an element that asks for the data to be discarded
+-- (2) is enough for that. Without either, nothing is done to the data as a whole (0).
 unfoldable pub dataOutcome : List Finding → ℕ
 dataOutcome vs = cond (someSays 3 vs) 3 (cond (someSays 2 vs) 2 0)
 

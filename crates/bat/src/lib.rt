@@ -118,7 +118,7 @@ pub struct Judged {
     pub diagnostic: Diagnostic,
 }
 
-// What is found of an element: its value, or the judgement of an unrecognised one.
+// The finding on an element: its value, or the judgement of an unrecognised one.
 pub enum Finding {
     Recognised(Value),
     Unknown(Judged),

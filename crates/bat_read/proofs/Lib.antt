@@ -4,7 +4,7 @@ pub mod SimpleLaws
 pub mod ConstructorLaws
 pub mod ReadLaws
 pub mod InnerLaws
-pub mod VerdictLaws
+pub mod FindingLaws
 pub mod OutcomeLaws
 pub mod ListedLaws
 pub mod Through

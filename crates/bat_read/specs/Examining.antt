@@ -23,7 +23,7 @@ offenceOf (allCodecs cs) = Nowhere
 offenceOf (offence d) = At d
 
 -- ---- the front
--- What is at the front of octets: an element, what is found of it, and what follows it; octets that can't be framed; or
+-- What is at the front of octets: an element, the finding on it, and what follows it; octets that can't be framed; or
 -- nothing.
 pub data Examination : Type 0 where
   element : Element → Finding → List ℕ → Examination

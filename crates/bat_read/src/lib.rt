@@ -27,7 +27,7 @@ use bat::Framed;
 use bat::Outcome;
 use bat::Place;
 
-// An element at the front of a slice, and what is found of it.
+// An element at the front of a slice, and the finding on it.
 pub enum Examined {
     Element(Frame, Finding),
     Unframed,
@@ -90,7 +90,7 @@ fn index(decoding: Decoding, n: usize) -> usize
     }
 }
 
-// What is found of the element f at the front of s.
+// The finding on the element f at the front of s.
 fn judge_frame(s: &[u8], f: Frame, pass: bool) -> Finding
     requires { ⌜ frontIn (now s) (Whole f) ≡ some (front (now s)) ⌝ }
     ensures { λ r. ⌜ findingIn ((elementIn (now (s .entry)) f) .contents) r ≡ some (finding pass (elementIn (now (s .entry)) f)) ⌝ }
@@ -103,7 +103,7 @@ fn judge_frame(s: &[u8], f: Frame, pass: bool) -> Finding
     Finding::Recognised(value)
 }
 
-// What is at the front of s, and what is found of it. `pass` says whether passing on is possible.
+// What is at the front of s, and the finding on it. `pass` says whether passing on is possible.
 pub fn examine_first(s: &[u8], pass: bool) -> Examined
     ensures { λ r. ⌜ examinedIn (now (s .entry)) r ≡ some (examine pass (now (s .entry))) ⌝ }
 {
@@ -186,7 +186,7 @@ pub fn judge_data(data: &[u8], entries: usize, pass: bool) -> DataAnswer
     }
 }
 
-// The diagnostic that an element lists, by what is found of it.
+// The diagnostic that an element lists, by the finding on it.
 fn lists(v: Finding) -> Own
     ensures { λ r. ⌜ ((n : ℕ) (ls : List Listing) → ownIn r n ls ≡ ownOf v n ls) ⌝ }
 {

@@ -19,7 +19,7 @@ entriesFrom d [] = []
 entriesFrom d (e ∷ es) = entryOf d e ∷ entriesFrom (d + length (whole e)) es
 
 -- The table ys after the call. Refused data leaves it as it was (document 01, "Refusal numbers"). Otherwise the data's
--- entries are at its front, and those beyond their count are untouched.
+-- entries are at its front, and the rest of it is as it was.
 unfoldable pub filledBy : Cut → List Entry → List Entry
 filledBy (refused n) ys = ys
 filledBy (taken es) ys = entriesFrom 0 es ++ drop (length es) ys

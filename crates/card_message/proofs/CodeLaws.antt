@@ -1,4 +1,4 @@
--- Each answer of the reader has the number of what it stands for; a stream's port is no span.
+-- Each answer of the reader has the number of what it means; a stream's port is no span.
 -- Assumes nothing.
 use Prim.Native.Nat.{ℕ, _+_}
 use mathlib.Core.Path.{_≡_}
@@ -7,14 +7,14 @@ use mathlib.Core.Option.{none, some}
 use native.Mathlib.Omega.{arith}
 use Rattle.octets.proofs.CaseLaws.{by-bool}
 use Rattle.address.specs.declared.Address.{Address}
-use Rattle.media.specs.declared.Stream.{Stream as Places}
+use Rattle.media.specs.declared.Stream as code
 use Rattle.media.specs.Meaning.{streamBy, streamInside, streamIn}
 use Rattle.ipbcp.specs.declared.MessageType.{MessageType}
 use Rattle.ipbcp.specs.declared.Message.{Message}
 use Rattle.ipbcp.specs.declared.Message.the-variants as answer
 use Rattle.ipbcp.specs.Reading.{Reading, refused, typed, described}
 use Rattle.ipbcp.specs.Meaning.{readingIn}
-use Rattle.card_message.specs.Code.{readingForC}
+use Rattle.card_message.specs.ForC.{readingForC}
 
 module _ (m : List ℕ) (x : Message) (r : Reading) (is : readingIn m x ≡ some r) where
   pub code-refused : (n : ℕ) → x ≡ answer.Refused n → n ≡ readingForC r
@@ -25,7 +25,7 @@ module _ (m : List ℕ) (x : Message) (r : Reading) (is : readingIn m x ≡ some
   unfolding readingIn readingForC
   code-typed v k e = let q : some (typed v k) ≡ some r = rw e at is in let z : typed v k ≡ r = cc in rw (← z)
 
-  pub code-described : (k : MessageType) (a : Address) (s : Places) → x ≡ answer.Described k a s → 1000 + s .port ≡ readingForC r
+  pub code-described : (k : MessageType) (a : Address) (s : code.Stream) → x ≡ answer.Described k a s → 1000 + s .port ≡ readingForC r
   unfolding readingIn readingForC streamIn streamBy
   code-described k a s e =
       by-bool (streamInside m s) _

@@ -1,2 +1,2 @@
--- What the contract of this crate speaks of.
-pub mod Code
+-- The definition that the contract of this crate cites.
+pub mod ForC

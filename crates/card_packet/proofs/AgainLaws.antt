@@ -1,4 +1,4 @@
--- Each answer of the reader is answered as what it stands for; what a stream stands for is what its body says.
+-- Each answer of the reader is answered as what it means; a stream means what its body says.
 -- Assumes nothing.
 use Prim.Native.Nat.{ℕ, _+_}
 use mathlib.Core.Path.{_≡_, refl, ap}
@@ -7,9 +7,9 @@ use mathlib.Core.Option.{Option, none, some, Option·map}
 use native.Mathlib.Omega.{arith}
 use Rattle.octets.specs.declared.Put.{Put}
 use Rattle.octets.specs.declared.Put.the-variants.{Octets, Refused}
-use Rattle.octets.specs.Puts.{Puts}
+use Rattle.octets.specs.Puts.{Puts, refusedFrom}
 use Rattle.address.specs.declared.Address.{Address}
-use Rattle.media.specs.declared.Stream.{Stream as Places}
+use Rattle.media.specs.declared.Stream as code
 use Rattle.media.specs.Meaning.{streamIn}
 use Rattle.media.specs.Stream.{Stream}
 use Rattle.ipbcp.specs.declared.MessageType.{MessageType}
@@ -22,32 +22,33 @@ use Rattle.ipbcp.specs.Reading.{Reading, refused, typed, described}
 use Rattle.ipbcp.specs.Writing.{messageOctetsIn}
 use Rattle.ipbcp.specs.Meaning.{readingIn, contentIn}
 use Rattle.bctp.specs.Packet.{packetText}
-use Rattle.card_packet.specs.Again.{contentOf, packetOf, putForC, rewriteForC, bufferAfterRewrite, Rewrites, bodyOf}
+use Rattle.card_packet.specs.Again.{contentOf, packetOf, putForC, rewriteForC, bufferAfterRewrite, Rewrites}
+use Rattle.card_packet.specs.Private.{bodyOf}
 
 -- the content of a body is what its stream says
-content-body : (m : List ℕ) (k : MessageType) (s : Places) (t : Stream) → streamIn m s ≡ some t → contentIn m (bodyOf k s) ≡ some (contentOf k t)
+content-body : (m : List ℕ) (k : MessageType) (s : code.Stream) (t : Stream) → streamIn m s ≡ some t → contentIn m (bodyOf k s) ≡ some (contentOf k t)
 unfolding contentIn contentOf
 content-body m Request s t e = rw e
 content-body m Accepted s t e = rw e
 content-body m Confused s t e = refl
 content-body m Rejected s t e = refl
 
-written : (a : Address) (m : List ℕ) (k : MessageType) (s : Places) (t : Stream) → streamIn m s ≡ some t
+written : (a : Address) (m : List ℕ) (k : MessageType) (s : code.Stream) (t : Stream) → streamIn m s ≡ some t
     → Option·map packetText (messageOctetsIn a (contentIn m (bodyOf k s))) ≡ packetOf k a t
 unfolding messageOctetsIn packetOf
 written a m k s t e = rw (content-body m k s t e)
 
 -- what is written of each type
-pub body-request : (k : MessageType) (s : Places) → k ≡ Request → body.Request s ≡ bodyOf k s
+pub body-request : (k : MessageType) (s : code.Stream) → k ≡ Request → body.Request s ≡ bodyOf k s
 body-request k s e = rw e
 
-pub body-accepted : (k : MessageType) (s : Places) → k ≡ Accepted → body.Accepted s ≡ bodyOf k s
+pub body-accepted : (k : MessageType) (s : code.Stream) → k ≡ Accepted → body.Accepted s ≡ bodyOf k s
 body-accepted k s e = rw e
 
-pub body-confused : (k : MessageType) (s : Places) → k ≡ Confused → body.Confused ≡ bodyOf k s
+pub body-confused : (k : MessageType) (s : code.Stream) → k ≡ Confused → body.Confused ≡ bodyOf k s
 body-confused k s e = rw e
 
-pub body-rejected : (k : MessageType) (s : Places) → k ≡ Rejected → body.Rejected ≡ bodyOf k s
+pub body-rejected : (k : MessageType) (s : code.Stream) → k ≡ Rejected → body.Rejected ≡ bodyOf k s
 body-rejected k s e = rw e
 
 pub ruleset bodies = (body-request, body-accepted, body-confused, body-rejected)
@@ -56,13 +57,13 @@ pub ruleset bodies = (body-request, body-accepted, body-confused, body-rejected)
 pub code-octets : (r : Put) (n : ℕ) → r ≡ Octets n → n ≡ putForC r
 code-octets r n e = rw e
 
-pub code-refused : (r : Put) (n : ℕ) → r ≡ Refused n → 65536 + n ≡ putForC r
+pub code-refused : (r : Put) (n : ℕ) → r ≡ Refused n → refusedFrom + n ≡ putForC r
 code-refused r n e = rw e
 
 pub ruleset codes = (code-octets, code-refused)
 
 module _ (m : List ℕ) (x : Message) (r : Reading) (is : readingIn m x ≡ some r) (l : List ℕ) where
-  pub rewrites-refused : (n : ℕ) → x ≡ answer.Refused n → Rewrites r l (65536 + n) l
+  pub rewrites-refused : (n : ℕ) → x ≡ answer.Refused n → Rewrites r l (refusedFrom + n) l
   unfolding readingIn rewriteForC bufferAfterRewrite
   rewrites-refused n e =
       let q : some (refused n) ≡ some r = rw e at is in
@@ -76,7 +77,7 @@ module _ (m : List ℕ) (x : Message) (r : Reading) (is : readingIn m x ≡ some
       let z : typed v k ≡ r = cc in
       record { answers = rw (← z); leaves = rw (← z) }
 
-  described-in : (k : MessageType) (a : Address) (s : Places) → x ≡ answer.Described k a s → (o : Option Stream) → streamIn m s ≡ o → (p : Put) (f : List ℕ)
+  described-in : (k : MessageType) (a : Address) (s : code.Stream) → x ≡ answer.Described k a s → (o : Option Stream) → streamIn m s ≡ o → (p : Put) (f : List ℕ)
       → Puts (Option·map packetText (messageOctetsIn a (contentIn m (bodyOf k s)))) l p f → Rewrites r l (putForC p) f
   unfolding readingIn rewriteForC bufferAfterRewrite
   described-in k a s e none n p f w =
@@ -88,7 +89,7 @@ module _ (m : List ℕ) (x : Message) (r : Reading) (is : readingIn m x ≡ some
       let u : Puts (packetOf k a t) l p f = rw (written a m k s t n) at w in
       record { answers = rw (← z) (ap putForC (u .answers)); leaves = rw (← z) (u .leaves) }
 
-  pub rewrites-described : (k : MessageType) (a : Address) (s : Places) → x ≡ answer.Described k a s → (b : Body) → b ≡ bodyOf k s → (p : Put) (f : List ℕ)
+  pub rewrites-described : (k : MessageType) (a : Address) (s : code.Stream) → x ≡ answer.Described k a s → (b : Body) → b ≡ bodyOf k s → (p : Put) (f : List ℕ)
       → Puts (Option·map packetText (messageOctetsIn a (contentIn m b))) l p f → (c : ℕ) → c ≡ putForC p → Rewrites r l c f
   rewrites-described k a s e b g p f w c h =
       let u : Puts (Option·map packetText (messageOctetsIn a (contentIn m (bodyOf k s)))) l p f = rw g at w in

@@ -1,2 +1,3 @@
--- What the contracts of this crate speak of.
+-- The definitions that the contracts of this crate cite. `Private` is used only by private functions.
 pub mod Again
+pub mod Private

@@ -1,18 +1,17 @@
-// A message that is read and written again in a tunnel packet, for C to call: a test has other programs
-// read the packets.
+// Reads a message and writes it again in a tunnel packet, for C to call: in a test, other programs read the
+// packets.
 ghost use mathlib.Core.Path.{_≡_};
 ghost use Rattle.ipbcp.specs.Reading.{readMessage};
-ghost use Rattle.card_packet.specs.Again.{bodyOf, putForC, Rewrites};
+ghost use Rattle.card_packet.specs.Again.{putForC, Rewrites};
+ghost use Rattle.card_packet.specs.Private.{bodyOf};
 use ipbcp::Body;
 use ipbcp::Message;
 use ipbcp::MessageType;
 use media::Stream;
 use octets::Put;
+use octets::REFUSED;
 
-// For C, a refusal's number stands above this.
-pub const REFUSED: usize = 65536;
-
-// What is written of a message of this type.
+// The body of a message of this type.
 fn body_of(kind: MessageType, stream: Stream) -> Body
     ensures { λ r. ⌜ r ≡ bodyOf kind stream ⌝ }
 {
@@ -34,9 +33,9 @@ fn code(r: Put) -> usize
     }
 }
 
-// Puts a packet at the front of out whose message says what m says, with m's address as the own one. The
-// answer is how many octets it has, none where m is a version and type alone, or REFUSED and the number
-// that refuses m or the packet; then out stays as it was.
+// Puts a packet at the front of out whose message says what m says, with m's address as the own address. The
+// answer is its length, or 0 if m is a version and type alone, or REFUSED plus the number that refuses m or the
+// packet; then out stays as it was.
 #[no_mangle]
 pub extern "C" fn card_packet_rewrite(m: &[u8], out: &mut [u8]) -> usize
     ensures { λ r. ⌜ Rewrites (readMessage (now (m .entry))) (now (out .entry)) r (now (out .exit)) ⌝ }

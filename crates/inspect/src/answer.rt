@@ -8,8 +8,8 @@ use crate::tunnel;
 use octets::parts;
 use octets::words;
 
-// Appends what the line's mode answers. A mode has data for the octets that the line's digits stand
-// for, and room for what it writes.
+// Appends what the line's mode answers. A mode gets `data` for the octets that the line's digits stand for, and `room`
+// for what it writes.
 pub(crate) fn push_answer(
     line: &[u8],
     data: &mut [u8],

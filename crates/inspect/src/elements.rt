@@ -20,7 +20,7 @@ use octets::append;
 use octets::parts;
 use octets::spans;
 
-// Appends the word for what is made of the data.
+// Appends the word for the data's outcome.
 fn push_outcome(o: DataOutcome, out: &mut [u8], at: usize) -> usize {
     match o {
         DataOutcome::Neither => append::push(b"neither ", out, at),
@@ -39,7 +39,7 @@ fn push_asked(o: Outcome, out: &mut [u8], at: usize) -> usize {
     }
 }
 
-// Appends whether notice is asked.
+// Appends whether the element asks for notice.
 fn push_notice(notice: bool, out: &mut [u8], at: usize) -> usize {
     if notice {
         return append::push(b"1:", out, at);
@@ -51,7 +51,7 @@ fn push_diagnostic(d: Diagnostic, out: &mut [u8], at: usize) -> usize {
     print::diagnostic(d.identifier, d.index as u64, out, at)
 }
 
-// Appends what is made of an unknown element.
+// Appends the judgement of an unknown element.
 fn push_judged(j: Judged, out: &mut [u8], at: usize) -> usize {
     let o = j.outcome;
     let d = j.diagnostic;
@@ -63,21 +63,20 @@ fn push_judged(j: Judged, out: &mut [u8], at: usize) -> usize {
 // Appends the front of the element f, which starts at `start`.
 fn push_front(f: Frame, start: usize, out: &mut [u8], at: usize) -> usize {
     let k = append::push_octet(b' ', out, at);
-    let k2 = append::push_number_then(f.identifier as u64, 47, out, k);
-    let k3 = append::push_number_then(start as u64, 47, out, k2);
-    append::push_number_then(framing::whole_length(f) as u64, 47, out, k3)
+    let k2 = append::push_number_then(f.identifier as u64, b'/', out, k);
+    let k3 = append::push_number_then(start as u64, b'/', out, k2);
+    append::push_number_then(framing::whole_length(f) as u64, b'/', out, k3)
 }
 
-// Appends what is made of the element f at the front of s.
-fn push_verdict(s: &[u8], f: Frame, v: Finding, out: &mut [u8], at: usize) -> usize {
+// Appends the finding on the element f at the front of s.
+fn push_finding(s: &[u8], f: Frame, v: Finding, out: &mut [u8], at: usize) -> usize {
     match v {
         Finding::Recognised(value) => values::push_value(framing::contents(s, f), value, out, at),
         Finding::Unknown(j) => push_judged(j, out, at),
     }
 }
 
-// Appends each element of the data. (The next one is always behind this one; the `if` shows that the
-// loop ends.)
+// Appends each element of the data. (The next one is always after this one; the `if` shows that the loop ends.)
 fn push_elements(data: &[u8], pass: bool, out: &mut [u8], at: usize) -> usize {
     let mut k = at;
     let mut i = 0;
@@ -88,8 +87,8 @@ fn push_elements(data: &[u8], pass: bool, out: &mut [u8], at: usize) -> usize {
             return k;
         };
         k = push_front(f, i, out, k);
-        k = push_verdict(s, f, v, out, k);
-        let next = walk::behind(data, i, f);
+        k = push_finding(s, f, v, out, k);
+        let next = walk::end_of(data, i, f);
         if next <= i {
             return k;
         }
@@ -98,7 +97,7 @@ fn push_elements(data: &[u8], pass: bool, out: &mut [u8], at: usize) -> usize {
     k
 }
 
-// Appends a listed diagnostic, behind `;` unless it is the first, which stands at `first`.
+// Appends a listed diagnostic, after a `;` unless it is the first, which is at `first`.
 fn push_listing(d: Diagnostic, first: usize, out: &mut [u8], at: usize) -> usize {
     if first < at {
         let k = append::push_octet(b';', out, at);
@@ -107,8 +106,8 @@ fn push_listing(d: Diagnostic, first: usize, out: &mut [u8], at: usize) -> usize
     push_diagnostic(d, out, at)
 }
 
-// Appends the listed diagnostics of the data's elements. (The next one is always looked for behind this
-// one; the `if` shows that the loop ends.)
+// Appends the listed diagnostics of the data's elements. (The next one is always looked for after this one; the `if`
+// shows that the loop ends.)
 fn push_listings(data: &[u8], pass: bool, out: &mut [u8], at: usize) -> usize {
     let mut k = at;
     let mut i = 0;
@@ -126,7 +125,7 @@ fn push_listings(data: &[u8], pass: bool, out: &mut [u8], at: usize) -> usize {
     k
 }
 
-// Appends the listed diagnostics, or `-` where there are none.
+// Appends the listed diagnostics, or `-` if there are none.
 fn push_listed(data: &[u8], pass: bool, out: &mut [u8], at: usize) -> usize {
     let first = append::push(b" listed=", out, at);
     let k = push_listings(data, pass, out, first);

@@ -5,18 +5,18 @@ use octets::Number;
 use octets::parts;
 use octets::words;
 
-// How many octets the digits of a field stand for, or that they are no digits.
+// How many octets the digits of a field stand for, or that it has something else.
 pub(crate) enum Unpacked {
     Octets(usize),
     Wrong,
 }
 
-// The number in the k-th field. One above 65535 counts as 65535: no table, buffer or octet needs more.
+// The number in field k, capped at 65535: no table, buffer or octet needs more.
 pub(crate) fn number(line: &[u8], k: usize) -> Number {
     read_length(parts::part(line, b' ', k))
 }
 
-// Puts the octets of the k-th field into data: `-` stands for none, else it has digits.
+// Puts the octets of field k into data: `-` stands for none, otherwise it has digits.
 pub(crate) fn unpack(line: &[u8], k: usize, data: &mut [u8]) -> Unpacked {
     let field = parts::part(line, b' ', k);
     if words::equals(b"-", field) {

@@ -17,9 +17,8 @@ use line_output::Output;
 use line_output::flush;
 use line_output::make_room;
 
-// Room that is kept for a line of output, so that none is cut. The longest is that of 2,048 octets
-// which are 682 unknown elements: 35 octets for each and 6 more where its diagnostic is listed, under
-// 28,000 in all.
+// Room that is kept for a line of output, so that none is cut. The longest is for 2,048 octets with 682 unknown
+// elements: 35 octets for each, and 6 more if its diagnostic is listed, under 28,000 in all.
 const LINE_ROOM: usize = 40960;
 
 // What is kept from octet to octet.
@@ -94,7 +93,7 @@ fn feed(
     st
 }
 
-// The input goes on no more; where it can't be read, standard error is told.
+// The input has ended; if it could not be read, standard error says so.
 fn tell_end(got: isize) {
     if got < 0 {
         io::write_all(STDERR_FILENO, b"the input can't be read\n");
@@ -125,8 +124,8 @@ fn turn(
     st
 }
 
-// Answers each line of the input, to its end. A last line with no LF is a line as the others.
-// Nothing says that the input ends, so the loop counts its turns down from a number that no run uses up.
+// Answers each line of the input, to its end. A last line without LF is answered like the others.
+// Nothing guarantees that the input ends, so the loop counts down from a number that no run reaches.
 fn run(part: &mut [u8], line: &mut [u8], data: &mut [u8], room: &mut [u8], out: &mut [u8]) {
     let mut st = start();
     let mut turns = u64::MAX;
@@ -140,8 +139,8 @@ fn run(part: &mut [u8], line: &mut [u8], data: &mut [u8], room: &mut [u8], out: 
     }
 }
 
-// A line has at most 16,384 octets with its LF, so its digits stand for fewer than 8,192. An element that is written has at most
-// 2,048 octets, so no more is lent of a longer buffer.
+// A line has at most 16,384 octets with its LF, so its digits stand for fewer than 8,192 octets. A written element has at
+// most 2,048 octets, so no more of a longer buffer is used.
 fn main() {
     let mut part = io::large_buffer();
     let mut line = [0u8; 16383];

@@ -26,7 +26,7 @@ fn push_kind(kind: MessageType, out: &mut [u8], at: usize) -> usize {
 
 // Appends a version and a type.
 fn push_head(version: u8, kind: MessageType, out: &mut [u8], at: usize) -> usize {
-    let k = append::push_number_then(version as u64, 32, out, at);
+    let k = append::push_number_then(version as u64, b' ', out, at);
     push_kind(kind, out, k)
 }
 
@@ -70,7 +70,7 @@ fn push_media(m: &[u8], s: Stream, out: &mut [u8], at: usize) -> usize {
     push_number(s.payload as u64, out, k3)
 }
 
-// Appends the attributes behind the media line: rtpmap, fmtp, ptime.
+// Appends the attributes after the media line: rtpmap, fmtp, ptime.
 fn push_attributes(m: &[u8], s: Stream, out: &mut [u8], at: usize) -> usize {
     let rtpmap = s.rtpmap;
     let fmtp = s.fmtp;

@@ -1,6 +1,5 @@
 // rewrite BUFFER COMPATIBILITY HEX: one element read, and written again with that compatibility
-// octet into a buffer of that length. What refuses the data comes before what refuses the writing:
-// 1, 2, 3, then 5, 4.
+// octet into a buffer of that length. Refusals of the data come before refusals of the writing: 1, 2, 3, then 5, 4.
 use crate::input;
 use crate::input::Unpacked;
 use crate::print;

@@ -30,9 +30,9 @@ fn push_octets(name: &[u8], s: &[u8], sp: Span, out: &mut [u8], at: usize) -> us
     print::named(name, spans::text(s, sp), out, at)
 }
 
-// Appends a single codec: the organisation, and the octets behind it.
+// Appends a single codec: the organisation, and the octets after it.
 fn push_codec(organisation: u8, information: &[u8], out: &mut [u8], at: usize) -> usize {
-    let k = append::push_number_then(organisation as u64, 46, out, at);
+    let k = append::push_number_then(organisation as u64, b'.', out, at);
     notation::push_octets(information, out, k)
 }
 
@@ -47,7 +47,7 @@ fn push_contents(c: &[u8], out: &mut [u8], at: usize) -> usize {
     push_codec(framing::octet_at(c, 0), spans::after(c, 1), out, at)
 }
 
-// Appends the codec whose contents are c, behind a comma unless it is the first, at 0.
+// Appends the codec whose contents are c, after a comma unless it is the first, at 0.
 fn push_next(c: &[u8], i: usize, out: &mut [u8], at: usize) -> usize {
     if i == 0 {
         return push_contents(c, out, at);
@@ -56,7 +56,7 @@ fn push_next(c: &[u8], i: usize, out: &mut [u8], at: usize) -> usize {
     push_contents(c, out, k)
 }
 
-// Appends the codecs in s, one behind the other, with a comma between them.
+// Appends the codecs in s, with a comma between them.
 fn push_list(s: &[u8], out: &mut [u8], at: usize) -> usize {
     let mut k = at;
     let mut i = 0;
@@ -67,7 +67,7 @@ fn push_list(s: &[u8], out: &mut [u8], at: usize) -> usize {
             return k;
         };
         k = push_next(framing::contents(t, f), i, out, k);
-        let next = walk::behind(s, i, f);
+        let next = walk::end_of(s, i, f);
         if next <= i {
             return k;
         }
@@ -81,7 +81,7 @@ fn push_codecs(s: &[u8], sp: Span, out: &mut [u8], at: usize) -> usize {
     push_list(spans::text(s, sp), out, k)
 }
 
-// Appends the diagnostics in s, three octets each, behind a `;` each.
+// Appends the diagnostics in s, three octets each, each after a `;`.
 fn push_diagnostics(s: &[u8], out: &mut [u8], at: usize) -> usize {
     let mut k = at;
     let mut i = 0;

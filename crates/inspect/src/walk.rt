@@ -1,8 +1,8 @@
 // Going from element to element.
 use bat::Frame;
 
-// Where the element f at the place i of s ends; i where it does not end in s.
-pub(crate) fn behind(s: &[u8], i: usize, f: Frame) -> usize {
+// Where the element f at the place i of s ends, or i if that is not inside s.
+pub(crate) fn end_of(s: &[u8], i: usize, f: Frame) -> usize {
     let n = bat::framing::whole_length(f);
     if s.len() < i {
         return i;

@@ -1,6 +1,6 @@
 -- `examine_first` meets its contract: each answer of the framing is one case of `examine`.
 -- Assumes nothing.
-use Rattle.bat_read.proofs.VerdictLaws.{examined}
+use Rattle.bat_read.proofs.FindingLaws.{examined}
 use borrow.Author.Needs.{needs}
 use Rattle.bat_read.proofs.examine_first.Statement.{statement}
 use Rattle.bat_read.proofs.examine_first.Tie as tie

@@ -1,6 +1,6 @@
 -- `index` meets its contract: each answer of the reader is one case of `indexIn`, and the sum is a small one.
 -- Assumes nothing.
-use Rattle.bat_read.proofs.VerdictLaws.{indexes, index-fits}
+use Rattle.bat_read.proofs.FindingLaws.{indexes, index-fits}
 use borrow.Author.Needs.{needs}
 use Rattle.bat_read.proofs.index.Statement.{statement}
 use Rattle.bat_read.proofs.index.Tie as tie

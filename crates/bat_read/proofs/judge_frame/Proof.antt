@@ -1,6 +1,6 @@
 -- `judge_frame` meets its contract: what the contents are decoded as decides, and the place at fault is inside contents that are short.
 -- Assumes nothing.
-use Rattle.bat_read.proofs.VerdictLaws.{verdicts, index-small}
+use Rattle.bat_read.proofs.FindingLaws.{findings, index-small}
 use borrow.Author.Needs.{needs}
 use Rattle.bat_read.proofs.judge_frame.Statement.{statement}
 use Rattle.bat_read.proofs.judge_frame.Tie as tie
@@ -27,10 +27,10 @@ judge-requires : tie.Need-judge-requires
 judge-requires c κs = search needs
 
 returns : tie.Need-returns
-returns c = search (verdicts, needs)
+returns c = search (findings, needs)
 
 returns-2 : tie.Need-returns-2
-returns-2 c = search (verdicts, needs)
+returns-2 c = search (findings, needs)
 
 pub judge-frame-spec : {M : Type 1} → statement M
 judge-frame-spec =

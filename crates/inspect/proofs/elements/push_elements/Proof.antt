@@ -40,11 +40,11 @@ returns c = search needs
 push-front-requires : tie.Need-push-front-requires Inv-loop μ-loop
 push-front-requires c κs = search needs
 
-push-verdict-requires : tie.Need-push-verdict-requires Inv-loop μ-loop
-push-verdict-requires c κs = search needs
+push-finding-requires : tie.Need-push-finding-requires Inv-loop μ-loop
+push-finding-requires c κs = search needs
 
-behind-requires : tie.Need-behind-requires Inv-loop μ-loop
-behind-requires c κs = search needs
+end-of-requires : tie.Need-end-of-requires Inv-loop μ-loop
+end-of-requires c κs = search needs
 
 same-length-2 : tie.Need-same-length-2 Inv-loop μ-loop
 same-length-2 c = search needs
@@ -79,8 +79,8 @@ push-elements-spec =
     same-length
     returns
     push-front-requires
-    push-verdict-requires
-    behind-requires
+    push-finding-requires
+    end-of-requires
     same-length-2
     returns-2
     loop-less

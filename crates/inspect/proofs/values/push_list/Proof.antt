@@ -43,8 +43,8 @@ contents-requires c κs = search needs
 push-next-requires : tie.Need-push-next-requires Inv-loop μ-loop
 push-next-requires c κs = search needs
 
-behind-requires : tie.Need-behind-requires Inv-loop μ-loop
-behind-requires c κs = search needs
+end-of-requires : tie.Need-end-of-requires Inv-loop μ-loop
+end-of-requires c κs = search needs
 
 same-length-2 : tie.Need-same-length-2 Inv-loop μ-loop
 same-length-2 c = search needs
@@ -80,7 +80,7 @@ push-list-spec =
     returns
     contents-requires
     push-next-requires
-    behind-requires
+    end-of-requires
     same-length-2
     returns-2
     loop-less

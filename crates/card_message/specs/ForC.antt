@@ -1,4 +1,5 @@
--- One number for each reading of a message.
+-- A reading of a message as one number, for C: the number that refuses it, 256 for a version and type alone, or 1000 plus the
+-- port.
 use Prim.Native.Nat.{ℕ, _+_}
 use Rattle.ipbcp.specs.Reading.{Reading, refused, typed, described}
 

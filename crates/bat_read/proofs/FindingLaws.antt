@@ -1,4 +1,4 @@
--- What is found of an element follows from how its contents are decoded, and the answer to the front of octets from that.
+-- The finding on an element follows from how its contents are decoded, and the answer to the front of octets from that.
 -- Assumes nothing.
 use Prim.Native.Nat.{ℕ, _+_, _≤_}
 use mathlib.Core.Path.{_≡_, refl, sym, ap, _∙_}
@@ -49,7 +49,7 @@ module _ (x : code.Decoding) (n : ℕ) where
 
 pub ruleset indexes = (index-decoded, index-itself, index-inner)
 
--- ---- an element's verdict
+-- ---- the finding on an element
 same-judgement : (s : List ℕ) (f : Frame) (pass : Bool) (n : ℕ) → unknown (judgement pass (elementIn s f .identifier) (elementIn s f .compatibility) n) ≡ unknown (judgement pass (f .identifier) (f .compatibility) n)
 unfolding elementIn
 same-judgement s f pass n = refl
@@ -89,34 +89,34 @@ module _ (s : List ℕ) (f : Frame) (here : frontIn s (Whole f) ≡ some (front 
   unfolding elementIn
   reading-is = rw is
 
-  verdict-of : (pass : Bool) (r : Decoding) → decoding (f .identifier) c ≡ r → finding pass (elementIn s f) ≡ findingBy pass (elementIn s f) r
+  finding-of : (pass : Bool) (r : Decoding) → decoding (f .identifier) c ≡ r → finding pass (elementIn s f) ≡ findingBy pass (elementIn s f) r
   unfolding finding
-  verdict-of pass r e = rw (reading-is, e)
+  finding-of pass r e = rw (reading-is, e)
 
   known-by : (o : Option Value) (pass : Bool) → Option·map decoded o ≡ some (decoding (f .identifier) c) → Option·map known o ≡ some (finding pass (elementIn s f))
   unfolding findingBy
   known-by none pass p = absurd (let z : _≡_ {A = ℕ} 0 1 = cc in omega arith)
   known-by (some v) pass p =
       let q : decoding (f .identifier) c ≡ decoded v = cc in
-      rw (verdict-of pass (decoded v) q)
+      rw (finding-of pass (decoded v) q)
 
-  pub verdict-known : (v : code.Value) → x ≡ code.Decoded v → (pass : Bool) → findingIn (elementIn s f .contents) (code.Recognised v) ≡ some (finding pass (elementIn s f))
+  pub finding-known : (v : code.Value) → x ≡ code.Decoded v → (pass : Bool) → findingIn (elementIn s f .contents) (code.Recognised v) ≡ some (finding pass (elementIn s f))
   unfolding findingIn decodingIn
-  verdict-known v e pass = ap (λ (l : List ℕ). Option·map known (valueIn l v)) (sym is) ∙ known-by (valueIn c v) pass (read-is (code.Decoded v) e)
+  finding-known v e pass = ap (λ (l : List ℕ). Option·map known (valueIn l v)) (sym is) ∙ known-by (valueIn c v) pass (read-is (code.Decoded v) e)
 
   judgement-is : (pass : Bool) (p : Place) → findingBy pass (elementIn s f) (unrecognised p) ≡ unknown (judgement pass (f .identifier) (f .compatibility) (indexBy (headerLength f) p))
   unfolding findingBy
   judgement-is pass p = rw head-is (same-judgement s f pass (indexBy (headerLength f) p))
 
-  pub verdict-unknown : (p : Place) → x ≡ code.Unrecognised p → (n i : ℕ) → HeaderLength f n → i ≡ indexIn n x → (pass : Bool) (j : Judged) → judgementIn j ≡ judgement pass (f .identifier) (f .compatibility) i
+  pub finding-unknown : (p : Place) → x ≡ code.Unrecognised p → (n i : ℕ) → HeaderLength f n → i ≡ indexIn n x → (pass : Bool) (j : Judged) → judgementIn j ≡ judgement pass (f .identifier) (f .compatibility) i
       → findingIn (elementIn s f .contents) (code.Unknown j) ≡ some (finding pass (elementIn s f))
   unfolding findingIn decodingIn indexIn
-  verdict-unknown p e n i h k pass j g =
+  finding-unknown p e n i h k pass j g =
       let q : decoding (f .identifier) c ≡ unrecognised p = (let z : some (unrecognised p) ≡ some (decoding (f .identifier) c) = read-is (code.Unrecognised p) e in cc) in
       let l : i ≡ indexBy (headerLength f) p = k ∙ rw (e, h .is) in
-      rw (verdict-of pass (unrecognised p) q, judgement-is pass p, g, l)
+      rw (finding-of pass (unrecognised p) q, judgement-is pass p, g, l)
 
-pub ruleset verdicts = (verdict-known, verdict-unknown)
+pub ruleset findings = (finding-known, finding-unknown)
 
 -- ---- the front, examined
 module _ (s : List ℕ) (pass : Bool) (x : Framed) (is : frontIn s x ≡ some (front s)) where
