@@ -19,12 +19,12 @@ use Rattle.octets.proofs.CaseLaws.{by-bool}
 use Rattle.address.specs.declared.Address.{Address}
 use Rattle.address.specs.declared.Address.the-variants.{V4, V6}
 use Rattle.address.specs.declared.Parsed.the-variants.{Unicast}
-use Rattle.address.specs.Kinds.{isUnicast, kind4}
+use Rattle.address.specs.Kinds.{isUnicast, ifUnicast4}
 use Rattle.address.specs.Parts.{allParts, inBase}
 use Rattle.address.specs.Ipv4.{isOctet, octetValue, isDotted, dottedValue, readV4}
-use Rattle.address.specs.Ipv6.{isGroup, groupValue, partsOf, kindOfGroups, full, beforeGap, afterGap, hasGap, filled, gapped, readV6}
+use Rattle.address.specs.Ipv6.{isGroup, groupValue, partsOf, ifUnicastGroups, full, beforeGap, afterGap, hasGap, filled, gapped, readV6}
 use Rattle.address.specs.Canonical.{eachAfter, joined, dottedNumbers, ipv4Text, addressText}
-use Rattle.address.proofs.KindLaws.{cond-told, kind4-told, kind6-told}
+use Rattle.address.proofs.KindLaws.{cond-told, ifUnicast4-told, ifUnicast6-told}
 use Rattle.address.proofs.PartLaws.{Below, base-below, below-values}
 use Rattle.address.proofs.Ipv6Laws.{groups-below, filled-below, length-filled}
 use Rattle.address.proofs.RoundTrip.{ipv4-back, ipv6-back}
@@ -56,8 +56,8 @@ read-host-4 : (s : List ℕ) (a : Address) → readV4 s ≡ Unicast a → Host4 
 unfolding readV4
 read-host-4 s a e =
     let ps = splitOn 46 s in
-    let (p, q) = cond-told (isDotted ps) (kind4 (dottedValue ps)) a e in
-    let (u, w) = kind4-told (dottedValue ps) a q in
+    let (p, q) = cond-told (isDotted ps) (ifUnicast4 (dottedValue ps)) a e in
+    let (u, w) = ifUnicast4-told (dottedValue ps) a q in
     rw w (host4 (dottedValue ps) (dotted-small ps p) u)
 
 again-4 : (a : Address) → Host4 a → readV4 (addressText a) ≡ Unicast a
@@ -72,25 +72,25 @@ read-again-4 s a e = again-4 a (read-host-4 s a e)
 data Host6 : Address → Type 0 where
   host6 : (high low : ℕ) → high < 2 ^ 64 → low < 2 ^ 64 → isUnicast (V6 high low) ≡ true → Host6 (V6 high low)
 
-groups-host : (gs : List ℕ) (a : Address) → Below 65536 gs → length gs ≡ 8 → kindOfGroups gs ≡ Unicast a → Host6 a
-unfolding kindOfGroups
+groups-host : (gs : List ℕ) (a : Address) → Below 65536 gs → length gs ≡ 8 → ifUnicastGroups gs ≡ Unicast a → Host6 a
+unfolding ifUnicastGroups
 groups-host gs a s h e =
     let n = inBase 65536 0 gs in
     let b : n < 2 ^ 64 * 2 ^ 64 = rw h at (base-below 65536 gs 0 0 s (omega arith)) in
-    let (u, w) = kind6-told (n / 2 ^ 64) (n % 2 ^ 64) a e in
+    let (u, w) = ifUnicast6-told (n / 2 ^ 64) (n % 2 ^ 64) a e in
     rw w (host6 (n / 2 ^ 64) (n % 2 ^ 64) (div-lt-iff-lt-mul {k = 2 ^ 64} (omega arith) .1 b) (mod-lt n {m = 2 ^ 64} (omega arith)) u)
 
 full-host : (ps : List (List ℕ)) (a : Address) → full ps ≡ Unicast a → Host6 a
 unfolding full
 full-host ps a e =
-    let (t, x) = cond-told (allParts isGroup ps && eqb (length ps) 8) (kindOfGroups (map groupValue ps)) a e in
+    let (t, x) = cond-told (allParts isGroup ps && eqb (length ps) 8) (ifUnicastGroups (map groupValue ps)) a e in
     let (p, q) = and-eq-true-iff (allParts isGroup ps) (eqb (length ps) 8) .0 t in
     groups-host (map groupValue ps) a (groups-below ps p) (length-map ps groupValue ∙ eqb-true (length ps) 8 q) x
 
 gapped-host : (ls rs : List (List ℕ)) (a : Address) → gapped ls rs ≡ Unicast a → Host6 a
 unfolding gapped
 gapped-host ls rs a e =
-    let (t, x) = cond-told (allParts isGroup ls && (allParts isGroup rs && leb (length ls + length rs) 7)) (kindOfGroups (filled ls rs)) a e in
+    let (t, x) = cond-told (allParts isGroup ls && (allParts isGroup rs && leb (length ls + length rs) 7)) (ifUnicastGroups (filled ls rs)) a e in
     let (p, q) = and-eq-true-iff (allParts isGroup ls) (allParts isGroup rs && leb (length ls + length rs) 7) .0 t in
     let (r, m) = and-eq-true-iff (allParts isGroup rs) (leb (length ls + length rs) 7) .0 q in
     groups-host (filled ls rs) a (filled-below ls rs p r) (length-filled ls rs (leb-true (length ls + length rs) 7 m)) x

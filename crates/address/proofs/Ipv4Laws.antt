@@ -21,7 +21,7 @@ use Rattle.address.specs.declared.Parsed.{Parsed}
 use Rattle.address.specs.declared.Parsed.the-variants.{Unreadable}
 use Rattle.address.specs.declared.ipv4.Part.{Part}
 use Rattle.address.specs.declared.ipv4.Part.the-variants.{Octet, NoOctet}
-use Rattle.address.specs.Kinds.{kind4}
+use Rattle.address.specs.Kinds.{ifUnicast4}
 use Rattle.address.specs.Parts.{allParts, inBase}
 use Rattle.address.specs.Ipv4.{isOctet, octetValue, isDotted, dottedValue, readV4}
 use Rattle.address.specs.Private.{octetTo, digitsAt, octetAt}
@@ -137,7 +137,7 @@ pub ruleset partRead = (part-bad, part-none, part-one, part-zero, part-more)
 -- ---- the four parts
 -- n, and then k parts, each the text of an octet
 unfoldable octetsFrom : ℕ → ℕ → List (List ℕ) → Parsed
-octetsFrom k n ps = cond (allParts isOctet ps && eqb (length ps) k) (kind4 (inBase 256 n (map octetValue ps))) Unreadable
+octetsFrom k n ps = cond (allParts isOctet ps && eqb (length ps) k) (ifUnicast4 (inBase 256 n (map octetValue ps))) Unreadable
 
 eqb-suc : (a b : ℕ) → eqb (suc a) (suc b) ≡ eqb a b
 eqb-suc a b =
@@ -171,7 +171,7 @@ octets-long : (n : ℕ) (s : List ℕ) → octetsFrom 0 n (splitOn 46 s) ≡ Unr
 unfolding octetsFrom
 octets-long n s = rw (ne-eqb (length (splitOn 46 s)) 0 (λ z. omega (arith, split-some 46 s)), and-false)
 
-octets-end : (n : ℕ) → octetsFrom 0 n [] ≡ kind4 n
+octets-end : (n : ℕ) → octetsFrom 0 n [] ≡ ifUnicast4 n
 unfolding octetsFrom allParts inBase
 octets-end n = refl
 
@@ -249,5 +249,5 @@ module _ (s : List ℕ) (y₁ : Part) (r₁ : y₁ ≡ octetAt s 0) where
                     sym (octets-long _ (drop (e₄ + 1) s))
                     ∙ step-dot s (e₃ + 1) 0 ((a * 256 + b) * 256 + c) _ inv₃ y₄ r₄ d e₄ q₄ h
 
-                pub whole : (x : Parsed) → length s ≤ e₄ → x ≡ kind4 (((a * 256 + b) * 256 + c) * 256 + d) → x ≡ readV4 s
+                pub whole : (x : Parsed) → length s ≤ e₄ → x ≡ ifUnicast4 (((a * 256 + b) * 256 + c) * 256 + d) → x ≡ readV4 s
                 whole x h e = e ∙ sym (octets-end _) ∙ step-end s (e₃ + 1) 0 ((a * 256 + b) * 256 + c) _ inv₃ y₄ r₄ d e₄ q₄ h

@@ -13,9 +13,9 @@ use Rattle.address.specs.declared.Parsed.the-variants.{Unreadable}
 use Rattle.address.specs.declared.ipv6.Halves.{Halves}
 use Rattle.address.specs.declared.ipv6.GapSide.{GapSide}
 use Rattle.address.specs.declared.ipv6.GapSide.the-variants.{Groups, NoSide}
-use Rattle.address.specs.Kinds.{kind6}
+use Rattle.address.specs.Kinds.{ifUnicast6}
 use Rattle.address.specs.Parts.{allParts, inBase}
-use Rattle.address.specs.Ipv6.{isGroup, groupValue, partsOf, kindOfGroups, full, beforeGap, afterGap, filled, gapped, readV6}
+use Rattle.address.specs.Ipv6.{isGroup, groupValue, partsOf, ifUnicastGroups, full, beforeGap, afterGap, filled, gapped, readV6}
 use Rattle.address.specs.Private.{pushAll, sideFrom}
 use Rattle.address.proofs.GapLaws.{gap-room, take-gap, has-gap, no-gap}
 use Rattle.address.proofs.SideLaws.{told-groups, told-none}
@@ -38,9 +38,9 @@ unfolding filled
 length-filled ls rs h = simp (length-append, length-replicate, length-map) (omega arith)
 
 -- eight groups, shifted in one after the other, are the address that they stand for
-kind-is : (gs : List ℕ) (d : Halves) → Below 65536 gs → length gs ≡ 8 → d ≡ pushAll (record { high = 0; low = 0 }) gs → kind6 (d .high) (d .low) ≡ kindOfGroups gs
-unfolding kindOfGroups halvesOf
-kind-is gs d s h e =
+groups-read : (gs : List ℕ) (d : Halves) → Below 65536 gs → length gs ≡ 8 → d ≡ pushAll (record { high = 0; low = 0 }) gs → ifUnicast6 (d .high) (d .low) ≡ ifUnicastGroups gs
+unfolding ifUnicastGroups halvesOf
+groups-read gs d s h e =
     let p : d ≡ halvesOf (inBase 65536 0 gs) = e ∙ push-all-number gs 0 0 s (omega arith) (omega arith) in
     rw p
 
@@ -57,13 +57,13 @@ module _ (s : List ℕ) (y : GapSide) (r : y ≡ sideFrom 0 (record { high = 0; 
         let (p, m, e) = told-groups 0 n _ a (partsOf s) y r q in
         rw (p, ne-eqb (length (partsOf s)) 8 (λ z. h (omega arith)))
 
-    pub full-kind : (t : Parsed) → n ≡ 8 → t ≡ kind6 (a .high) (a .low) → t ≡ full (partsOf s)
+    pub full-read : (t : Parsed) → n ≡ 8 → t ≡ ifUnicast6 (a .high) (a .low) → t ≡ full (partsOf s)
     unfolding full
-    full-kind t h k =
+    full-read t h k =
         let (p, m, e) = told-groups 0 n _ a (partsOf s) y r q in
         let f : length (partsOf s) ≡ 8 = omega arith in
         rw (p, eq-eqb (length (partsOf s)) 8 f)
-        (k ∙ kind-is (map groupValue (partsOf s)) a (groups-below (partsOf s) p) (length-map (partsOf s) groupValue ∙ f) e)
+        (k ∙ groups-read (map groupValue (partsOf s)) a (groups-below (partsOf s) p) (length-map (partsOf s) groupValue ∙ f) e)
 
 -- `read_gapped`: the left side, the right side, and the right side again after the zeros
 module _ (ls rs : List (List ℕ)) (y : GapSide) (r : y ≡ sideFrom 0 (record { high = 0; low = 0 }) ls) where
@@ -98,9 +98,9 @@ module _ (ls rs : List (List ℕ)) (y : GapSide) (r : y ≡ sideFrom 0 (record {
             let (p₂, m₂, e₂) = told-groups 0 n _ a₂ rs y₂ r₂ q₂ in
             absurd (true≢false (sym p₂ ∙ told-none 0 _ rs y₃ r₃ q₃))
 
-        pub gapped-kind : (c : ℕ) (d : Halves) (t : Parsed) → y₃ ≡ Groups c d → t ≡ kind6 (d .high) (d .low) → t ≡ gapped ls rs
+        pub gapped-read : (c : ℕ) (d : Halves) (t : Parsed) → y₃ ≡ Groups c d → t ≡ ifUnicast6 (d .high) (d .low) → t ≡ gapped ls rs
         unfolding gapped filled
-        gapped-kind c d t q₃ f =
+        gapped-read c d t q₃ f =
             let (p, m, e) = told-groups 0 l _ a ls y r q in
             let (p₂, m₂, e₂) = told-groups 0 n _ a₂ rs y₂ r₂ q₂ in
             let (p₃, m₃, e₃) = told-groups 0 c b d rs y₃ r₃ q₃ in
@@ -110,7 +110,7 @@ module _ (ls rs : List (List ℕ)) (y : GapSide) (r : y ≡ sideFrom 0 (record {
             e₃ ∙ ap (λ (x : Halves). pushAll x (map groupValue rs)) (rb ∙ rw (el, en, e))
             ∙ sym (push-append _ (map groupValue ls) (replicate (8 - (length ls + length rs)) 0 ++ map groupValue rs) ∙ push-append _ (replicate (8 - (length ls + length rs)) 0) (map groupValue rs)) in
             rw (p, p₂, le-leb (length ls + length rs) 7 (omega arith))
-            (f ∙ kind-is (filled ls rs) d (filled-below ls rs p p₂) (length-filled ls rs (omega arith)) all)
+            (f ∙ groups-read (filled ls rs) d (filled-below ls rs p p₂) (length-filled ls rs (omega arith)) all)
 
 -- `read_ipv6`: g is where the gap starts
 module _ (s : List ℕ) (g : ℕ) (e : g ≡ length (beforeGap s)) where

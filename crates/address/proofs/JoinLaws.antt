@@ -15,7 +15,7 @@ use Rattle.address.specs.Canonical.{eachAfter, joined, groupText}
 use Rattle.address.proofs.WriteLaws.{width-some}
 use Rattle.address.proofs.TextLaws.{length-group, group-has}
 
--- ---- octets that a text has not
+-- ---- octets that a text does not have
 pub has-append : (c : ℕ) (xs ys : List ℕ) → has c xs ≡ false → has c ys ≡ false → has c (xs ++ ys) ≡ false
 unfolding has
 has-append c [] ys p q = q

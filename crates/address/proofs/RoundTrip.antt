@@ -19,13 +19,13 @@ use Rattle.address.specs.declared.Address.the-variants.{V4, V6}
 use Rattle.address.specs.declared.Parsed.the-variants.{Unicast}
 use Rattle.address.specs.declared.ipv6.Halves.{Halves}
 use Rattle.address.specs.declared.write.Run.{Run}
-use Rattle.address.specs.Kinds.{isUnicast, kind4, kind6}
+use Rattle.address.specs.Kinds.{isUnicast, ifUnicast4, ifUnicast6}
 use Rattle.address.specs.Parts.{allParts, inBase}
 use Rattle.address.specs.Ipv4.{isOctet, octetValue, isDotted, dottedValue, readV4}
-use Rattle.address.specs.Ipv6.{isGroup, groupValue, kindOfGroups, full, beforeGap, afterGap, filled, gapped, readV6}
+use Rattle.address.specs.Ipv6.{isGroup, groupValue, ifUnicastGroups, full, beforeGap, afterGap, filled, gapped, readV6}
 use Rattle.address.specs.Canonical.{joined, dottedNumbers, ipv4Text, groupText, fourGroups, groupsOf, longestRun, shortened, ipv6Text, addressText}
 use Rattle.address.specs.Back.{fits, readLike}
-use Rattle.address.proofs.KindLaws.{kind4-is, kind6-is}
+use Rattle.address.proofs.KindLaws.{ifUnicast4-is, ifUnicast6-is}
 use Rattle.address.proofs.PartLaws.{Below, none, one, below-take, below-drop, all-texts, values-texts}
 use Rattle.address.proofs.GapLaws.{has-gap, no-gap, gap-here}
 use Rattle.address.proofs.HalvesLaws.{halvesOf, halves-of}
@@ -68,7 +68,7 @@ length-dottedNumbers : (n : ℕ) → length (dottedNumbers n) ≡ 4
 unfolding dottedNumbers
 length-dottedNumbers n = refl
 
-ipv4-read : (n : ℕ) → n < 2 ^ 32 → readV4 (ipv4Text n) ≡ kind4 n
+ipv4-read : (n : ℕ) → n < 2 ^ 32 → readV4 (ipv4Text n) ≡ ifUnicast4 n
 unfolding readV4 isDotted dottedValue
 ipv4-read n h =
     rw (
@@ -104,11 +104,11 @@ groupsOf-value high low p q =
     ap (λ (n : ℕ). (((n * 65536 + low / 2 ^ 48 % 65536) * 65536 + low / 2 ^ 32 % 65536) * 65536 + low / 65536 % 65536) * 65536 + low % 65536) (half-value 0 high p ∙ omega arith)
     ∙ half-value high low q
 
-kind-groups : (high low : ℕ) → high < 2 ^ 64 → low < 2 ^ 64 → kindOfGroups (groupsOf high low) ≡ kind6 high low
-unfolding kindOfGroups halvesOf
-kind-groups high low p q =
+groups-written : (high low : ℕ) → high < 2 ^ 64 → low < 2 ^ 64 → ifUnicastGroups (groupsOf high low) ≡ ifUnicast6 high low
+unfolding ifUnicastGroups halvesOf
+groups-written high low p q =
     let e : halvesOf (inBase 65536 0 (groupsOf high low)) ≡ (let y : Halves = record { high = high; low = low } in y) = ap halvesOf (groupsOf-value high low p q) ∙ halves-of high low q in
-    ap (λ (x : Halves). kind6 (x .high) (x .low)) e
+    ap (λ (x : Halves). ifUnicast6 (x .high) (x .low)) e
 
 -- ---- IPv6: the texts
 groups-all : (gs : List ℕ) → Below 65536 gs → allParts isGroup (map groupText gs) ≡ true
@@ -117,7 +117,7 @@ groups-all gs s = all-texts 65536 groupText isGroup groupValue group-back gs s
 groups-values : (gs : List ℕ) → Below 65536 gs → map groupValue (map groupText gs) ≡ gs
 groups-values gs s = values-texts 65536 groupText isGroup groupValue group-back gs s
 
-full-back : (gs : List ℕ) → Below 65536 gs → length gs ≡ 8 → readV6 (joined 58 groupText gs) ≡ kindOfGroups gs
+full-back : (gs : List ℕ) → Below 65536 gs → length gs ≡ 8 → readV6 (joined 58 groupText gs) ≡ ifUnicastGroups gs
 unfolding readV6 full beforeGap
 full-back gs s h =
     let e : beforeGap (joined 58 groupText gs) ≡ joined 58 groupText gs =
@@ -130,7 +130,7 @@ drop-past [] ys = refl
 drop-past (x ∷ xs) ys = rw suc-add (drop-past xs ys)
 
 gapped-back : (ls rs : List ℕ) → Below 65536 ls → Below 65536 rs → length ls + length rs ≤ 7
-    → readV6 (joined 58 groupText ls ++ (58 ∷ 58 ∷ joined 58 groupText rs)) ≡ kindOfGroups (ls ++ (replicate (8 - (length ls + length rs)) 0 ++ rs))
+    → readV6 (joined 58 groupText ls ++ (58 ∷ 58 ∷ joined 58 groupText rs)) ≡ ifUnicastGroups (ls ++ (replicate (8 - (length ls + length rs)) 0 ++ rs))
 unfolding readV6 gapped filled afterGap
 gapped-back ls rs sl sr h =
     let xs = joined 58 groupText ls in
@@ -154,7 +154,7 @@ gapped-back ls rs sl sr h =
       groups-values rs sr,
     )
 
-shortened-back : (gs : List ℕ) (r : Run) → Below 65536 gs → length gs ≡ 8 → IsRun gs r → readV6 (shortened gs r) ≡ kindOfGroups gs
+shortened-back : (gs : List ℕ) (r : Run) → Below 65536 gs → length gs ≡ 8 → IsRun gs r → readV6 (shortened gs r) ≡ ifUnicastGroups gs
 unfolding shortened
 shortened-back gs r s h w =
     let i = w .inside in
@@ -165,26 +165,26 @@ shortened-back gs r s h w =
     let n : 8 - (length (take (r .start) gs) + length (drop (r .start + r .len) gs)) ≡ r .len = omega arith in
     rw (le-ltb (r .len) 2 p)
     (gapped-back (take (r .start) gs) (drop (r .start + r .len) gs) (below-take 65536 (r .start) gs s) (below-drop 65536 (r .start + r .len) gs s) (omega arith)
-    ∙ ap kindOfGroups (rw n (around gs r w))))
+    ∙ ap ifUnicastGroups (rw n (around gs r w))))
 
 length-groupsOf : (high low : ℕ) → length (groupsOf high low) ≡ 8
 unfolding groupsOf fourGroups
 length-groupsOf high low = refl
 
-ipv6-read : (high low : ℕ) → high < 2 ^ 64 → low < 2 ^ 64 → readV6 (ipv6Text high low) ≡ kind6 high low
+ipv6-read : (high low : ℕ) → high < 2 ^ 64 → low < 2 ^ 64 → readV6 (ipv6Text high low) ≡ ifUnicast6 high low
 unfolding ipv6Text
 ipv6-read high low p q =
     shortened-back (groupsOf high low) (longestRun (groupsOf high low)) (groupsOf-below high low) (length-groupsOf high low) (longest-is (groupsOf high low))
-    ∙ kind-groups high low p q
+    ∙ groups-written high low p q
 
 -- ---- the theorems
 pub ipv4-back : (n : ℕ) → n < 2 ^ 32 → isUnicast (V4 n) ≡ true → readV4 (addressText (V4 n)) ≡ Unicast (V4 n)
 unfolding addressText
-ipv4-back n h e = ipv4-read n h ∙ kind4-is n e
+ipv4-back n h e = ipv4-read n h ∙ ifUnicast4-is n e
 
 pub ipv6-back : (high low : ℕ) → high < 2 ^ 64 → low < 2 ^ 64 → isUnicast (V6 high low) ≡ true → readV6 (addressText (V6 high low)) ≡ Unicast (V6 high low)
 unfolding addressText
-ipv6-back high low p q e = ipv6-read high low p q ∙ kind6-is high low e
+ipv6-back high low p q e = ipv6-read high low p q ∙ ifUnicast6-is high low e
 
 -- every address of one host is read from the text that is written for it
 pub address-back : (a : Address) → fits a → isUnicast a ≡ true → readLike a (addressText a) ≡ Unicast a

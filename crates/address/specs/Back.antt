@@ -1,4 +1,4 @@
--- What it is that an address which is written is read back.
+-- What it means that a written address is read back.
 use Prim.Native.Nat.{ℕ, _<_, _^_}
 use mathlib.Core.List.{List}
 use Rattle.address.specs.declared.Address.{Address}

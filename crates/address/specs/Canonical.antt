@@ -1,5 +1,5 @@
 -- Document 01, "Message, version 1", the paragraph on addresses: the one text that is written for an address. IPv4 is four
--- decimal numbers; IPv6 is written after RFC 5952, 4, and never with decimal numbers.
+-- decimal numbers; IPv6 follows RFC 5952, section 4, and never has decimal numbers.
 use Prim.Native.Nat.{ℕ, zero, suc, _+_, _-_, _/_, _%_, _^_}
 use mathlib.Core.List.{List, [], _∷_, _++_}
 use mathlib.Core.Bool.{cond}
@@ -12,7 +12,7 @@ use Rattle.address.specs.declared.Address.the-variants.{V4, V6}
 use Rattle.address.specs.declared.write.Run.{Run}
 
 -- ---- numbers with a separator
--- the texts f g of the numbers gs, each after a c
+-- the texts f g of the numbers gs, with c before each
 unfoldable pub eachAfter : ℕ → (ℕ → List ℕ) → List ℕ → List ℕ
 eachAfter c f [] = []
 eachAfter c f (g ∷ gs) = c ∷ (f g ++ eachAfter c f gs)
@@ -61,11 +61,11 @@ unfoldable pub zeros : List ℕ → ℕ
 zeros [] = 0
 zeros (g ∷ gs) = cond (eqb g 0) (suc (zeros gs)) 0
 
--- the longer of a run and the one of z zeros at i, the former where they are equal
+-- the longer of r and the run of z zeros at i; r if they are equal
 unfoldable pub better : Run → ℕ → ℕ → Run
 better r i z = cond (ltb (r .len) z) (record { start = i; len = z }) r
 
--- the longest of r and the runs of zeros of gs, whose first group is number i; the first of equals
+-- the longest of r and the runs of zeros of gs, whose first group is number i; the first of several as long
 unfoldable pub longestFrom : Run → ℕ → List ℕ → Run
 longestFrom r i [] = r
 longestFrom r i (g ∷ gs) = longestFrom (better r i (zeros (g ∷ gs))) (i + 1) gs

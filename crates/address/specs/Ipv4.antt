@@ -10,7 +10,7 @@ use Rattle.octets.specs.Decimal.{readNumber, onNumber}
 use Rattle.octets.specs.Text.{char}
 use Rattle.address.specs.declared.Parsed.{Parsed}
 use Rattle.address.specs.declared.Parsed.the-variants.{Unreadable}
-use Rattle.address.specs.Kinds.{kind4}
+use Rattle.address.specs.Kinds.{ifUnicast4}
 use Rattle.address.specs.Parts.{allParts, inBase}
 
 -- one of the numbers
@@ -30,4 +30,4 @@ dottedValue ps = inBase 256 0 (map octetValue ps)
 
 -- what s is read as
 unfoldable pub readV4 : List ℕ → Parsed
-readV4 s = cond (isDotted (splitOn (char ".") s)) (kind4 (dottedValue (splitOn (char ".") s))) Unreadable
+readV4 s = cond (isDotted (splitOn (char ".") s)) (ifUnicast4 (dottedValue (splitOn (char ".") s))) Unreadable

@@ -1,4 +1,4 @@
--- Document 01, "Message, version 1", the paragraph on addresses, after RFC 4291, 2.2: the text of an IPv6 address is eight groups
+-- Document 01, "Message, version 1", the paragraph on addresses, by RFC 4291, 2.2: the text of an IPv6 address is eight groups
 -- of hexadecimal digits with colons between them, and one "::" can stand for one or more groups of zeros. Stricter than RFC 4291:
 -- no group is written as decimal numbers.
 use Prim.Native.Nat.{ℕ, _+_, _-_, _/_, _%_, _^_}
@@ -11,7 +11,7 @@ use Rattle.octets.specs.Hex.{hexValue, allHex}
 use Rattle.octets.specs.Text.{char}
 use Rattle.address.specs.declared.Parsed.{Parsed}
 use Rattle.address.specs.declared.Parsed.the-variants.{Unreadable}
-use Rattle.address.specs.Kinds.{kind6}
+use Rattle.address.specs.Kinds.{ifUnicast6}
 use Rattle.address.specs.Parts.{allParts, inBase}
 
 -- ---- groups
@@ -27,13 +27,13 @@ unfoldable pub partsOf : List ℕ → List (List ℕ)
 partsOf [] = []
 partsOf (b ∷ bs) = splitOn (char ":") (b ∷ bs)
 
--- what eight groups are read as, by the two halves of their number of 128 bits
-unfoldable pub kindOfGroups : List ℕ → Parsed
-kindOfGroups gs = kind6 (inBase 65536 0 gs / 2 ^ 64) (inBase 65536 0 gs % 2 ^ 64)
+-- the address of eight groups, if it is unicast: the two halves of their number of 128 bits
+unfoldable pub ifUnicastGroups : List ℕ → Parsed
+ifUnicastGroups gs = ifUnicast6 (inBase 65536 0 gs / 2 ^ 64) (inBase 65536 0 gs % 2 ^ 64)
 
 -- ---- without "::"
 unfoldable pub full : List (List ℕ) → Parsed
-full ps = cond (allParts isGroup ps && eqb (length ps) 8) (kindOfGroups (map groupValue ps)) Unreadable
+full ps = cond (allParts isGroup ps && eqb (length ps) 8) (ifUnicastGroups (map groupValue ps)) Unreadable
 
 -- ---- with "::"
 -- what comes before the first "::" of s; all of s if there is none
@@ -53,9 +53,9 @@ hasGap s = ltb (length (beforeGap s)) (length s)
 unfoldable pub filled : List (List ℕ) → List (List ℕ) → List ℕ
 filled ls rs = map groupValue ls ++ (replicate (8 - (length ls + length rs)) 0 ++ map groupValue rs)
 
--- it stands for one group at least
+-- what is read with a "::", which stands for at least one group
 unfoldable pub gapped : List (List ℕ) → List (List ℕ) → Parsed
-gapped ls rs = cond (allParts isGroup ls && (allParts isGroup rs && leb (length ls + length rs) 7)) (kindOfGroups (filled ls rs)) Unreadable
+gapped ls rs = cond (allParts isGroup ls && (allParts isGroup rs && leb (length ls + length rs) 7)) (ifUnicastGroups (filled ls rs)) Unreadable
 
 -- ---- what s is read as
 -- A second "::", or a colon at an end, leaves an empty part, which is no group.

@@ -1,4 +1,4 @@
--- Document 01, "Message, version 1", the paragraph on addresses: which of them the card can use. Addresses are values here,
+-- Document 01, "Message, version 1", the paragraph on addresses: which of them the card can use. Addresses are values here:
 -- an IPv4 address one number and an IPv6 address its two halves of 64 bits.
 use Prim.Native.Nat.{ℕ, _/_, _^_}
 use mathlib.Core.Bool.{Bool, not, _&&_, _||_, cond}
@@ -14,13 +14,13 @@ unfoldable pub isUnicast : Address → Bool
 isUnicast (V4 n) = leb 1 (n / 2 ^ 24) && leb (n / 2 ^ 24) 223
 isUnicast (V6 high low) = not (eqb (high / 2 ^ 56) 255) && (not (eqb high 0) || not (eqb low 0))
 
--- what a text that stands for the IPv4 address n is read as
-unfoldable pub kind4 : ℕ → Parsed
-kind4 n = cond (isUnicast (V4 n)) (Unicast (V4 n)) Unreadable
+-- the IPv4 address n, if it is unicast
+unfoldable pub ifUnicast4 : ℕ → Parsed
+ifUnicast4 n = cond (isUnicast (V4 n)) (Unicast (V4 n)) Unreadable
 
--- what a text that stands for the IPv6 address of these halves is read as
-unfoldable pub kind6 : ℕ → ℕ → Parsed
-kind6 high low = cond (isUnicast (V6 high low)) (Unicast (V6 high low)) Unreadable
+-- the IPv6 address of these halves, if it is unicast
+unfoldable pub ifUnicast6 : ℕ → ℕ → Parsed
+ifUnicast6 high low = cond (isUnicast (V6 high low)) (Unicast (V6 high low)) Unreadable
 
 -- by cases on a `Parsed`
 unfoldable pub onParsed : {X : Type 0} → Parsed → (Address → X) → X → X

@@ -1,9 +1,9 @@
--- What the texts of both families are made of: parts, each the text of a number, which together are the digits of a greater one.
+-- What the texts of both families are made of: parts, each the text of a number, which together are the digits of a larger number.
 use Prim.Native.Nat.{ℕ, _+_, _*_}
 use mathlib.Core.List.{List, [], _∷_}
 use mathlib.Core.Bool.{Bool, true, _&&_}
 
--- every part is of the kind f
+-- f holds of every part
 unfoldable pub allParts : (List ℕ → Bool) → List (List ℕ) → Bool
 allParts f [] = true
 allParts f (p ∷ ps) = f p && allParts f ps

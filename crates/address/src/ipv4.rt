@@ -1,6 +1,6 @@
 // IPv4 addresses as text.
 ghost use mathlib.Core.Path.{_≡_};
-ghost use Rattle.address.specs.Kinds.{kind4};
+ghost use Rattle.address.specs.Kinds.{ifUnicast4};
 ghost use Rattle.address.specs.Ipv4.{readV4};
 ghost use Rattle.address.specs.Private.{digitsAt, octetAt};
 use crate::Address;
@@ -13,9 +13,9 @@ enum Part {
     NoOctet,
 }
 
-// What the address n is read as.
-fn kind(n: u32) -> Parsed
-    ensures { λ r. ⌜ r ≡ kind4 n ⌝ }
+// The address n, if it is unicast.
+fn if_unicast(n: u32) -> Parsed
+    ensures { λ r. ⌜ r ≡ ifUnicast4 n ⌝ }
 {
     let a = Address::V4(n);
     if is_unicast(a) {
@@ -24,7 +24,7 @@ fn kind(n: u32) -> Parsed
     Parsed::Unreadable
 }
 
-// The number to 255 whose digits, leading zeros or not, start at i and end at the next dot or at the end.
+// The number, at most 255, whose digits start at i and end at the next dot or the end; leading zeros are allowed.
 fn read_digits(s: &[u8], i: usize) -> Part
     ensures { λ r. ⌜ r ≡ digitsAt (now (s .entry)) i ⌝ }
 {
@@ -56,7 +56,7 @@ fn read_digits(s: &[u8], i: usize) -> Part
     }
 }
 
-// The same without leading zeros, and with one digit at least.
+// The same with at least one digit and no leading zeros.
 fn read_part(s: &[u8], i: usize) -> Part
     ensures { λ r. ⌜ r ≡ octetAt (now (s .entry)) i ⌝ }
 {
@@ -103,5 +103,5 @@ pub fn read_ipv4(s: &[u8]) -> Parsed
     if e4 < s.len() {
         return Parsed::Unreadable;
     }
-    kind(((a as u32 * 256 + b as u32) * 256 + c as u32) * 256 + d as u32)
+    if_unicast(((a as u32 * 256 + b as u32) * 256 + c as u32) * 256 + d as u32)
 }

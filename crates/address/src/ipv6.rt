@@ -4,7 +4,7 @@ ghost use mathlib.Core.Bool.{_&&_};
 ghost use lib.Dec.{eqb};
 ghost use lib.ListN.{length, replicate};
 ghost use Rattle.octets.specs.Text.{char};
-ghost use Rattle.address.specs.Kinds.{kind6};
+ghost use Rattle.address.specs.Kinds.{ifUnicast6};
 ghost use Rattle.address.specs.Ipv6.{beforeGap, partsOf, full, gapped, readV6};
 ghost use Rattle.address.specs.Private.{readGroup, pushed, pushAll, sideFrom};
 use crate::Address;
@@ -27,9 +27,9 @@ enum GapSide {
     NoSide,
 }
 
-// What the address of these halves is read as.
-fn kind(h: Halves) -> Parsed
-    ensures { λ r. ⌜ r ≡ kind6 (h .high) (h .low) ⌝ }
+// The address of these halves, if it is unicast.
+fn if_unicast(h: Halves) -> Parsed
+    ensures { λ r. ⌜ r ≡ ifUnicast6 (h .high) (h .low) ⌝ }
 {
     let high = h.high;
     let low = h.low;
@@ -147,7 +147,7 @@ fn read_full(s: &[u8]) -> Parsed
     if count != 8 {
         return Parsed::Unreadable;
     }
-    kind(halves)
+    if_unicast(halves)
 }
 
 // Reads the groups before and after a "::". Those after it are read twice: to count them, and then to shift them in after the
@@ -183,7 +183,7 @@ fn read_gapped(left: &[u8], right: &[u8]) -> Parsed
     else {
         return Parsed::Unreadable;
     };
-    kind(d)
+    if_unicast(d)
 }
 
 // The address that all of s stands for.

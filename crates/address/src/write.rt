@@ -114,7 +114,7 @@ fn zeros_at(gs: &[u16], i: usize) -> usize
     z
 }
 
-// The longer of r and the run of z zeros at i, r where they are equal.
+// The longer of r and the run of z zeros at i; r if they are equal.
 fn better_run(r: Run, i: usize, z: usize) -> Run
     ensures { λ x. ⌜ x ≡ better r i z ⌝ }
 {
@@ -125,7 +125,7 @@ fn better_run(r: Run, i: usize, z: usize) -> Run
     r
 }
 
-// The longest run of zeros, the first of equals.
+// The longest run of zeros, the first of several as long.
 fn longest(gs: &[u16]) -> Run
     ensures { λ r. ⌜ Longest (now (gs .entry)) r ⌝ }
 {

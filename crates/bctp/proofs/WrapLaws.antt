@@ -99,7 +99,7 @@ module _ (l : List ℕ) (short : length l < 2) where
       let z : x ≡ Refused 4 = e ∙ q in
       rw (z, s, put-same (length l) (length l - length l) l) (puts-short (packetText t) l (omega (arith, packet-length t)))
 
--- ---- room for them: the writer is lent all after
+-- ---- room for them: the writer is lent all that comes after them
 module _ (l : List ℕ) (long : 2 ≤ length l) where
   abbrev behind : List ℕ
   behind = midOf 2 (length l - 2) l

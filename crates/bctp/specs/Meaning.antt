@@ -21,7 +21,7 @@ bufferAfter l tunnelNotice = l
 bufferAfter l (tunnelReply t) = t ++ drop (length t) l
 bufferAfter l (tunnelMessage m) = l
 
--- Opening the packet p, which is o, with the buffer l answers r and leaves f in the buffer.
+-- Opening the packet p with the buffer l, where document 01 asks for o, answers r and leaves f in the buffer.
 pub record Opens (p l : List ℕ) (o : Opened) (r : Packet) (f : List ℕ) : Type 0 where
   pub answers : openedIn p f r ≡ withRoom (length l) o
   pub fills : f ≡ bufferAfter l (withRoom (length l) o)

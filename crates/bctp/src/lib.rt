@@ -113,7 +113,7 @@ fn without_room(r: Put) -> Put
     }
 }
 
-// Puts the two indicators of a packet before a message of n octets, which stands in out from its third octet on.
+// Puts the two indicators of a packet before a message of n octets, which out has from its third octet on.
 fn put_indicators(n: usize, out: &mut [u8]) -> Put
     requires { ⌜ 2 + n ≤ length (now out) ⌝ }
     ensures { λ r. ⌜ Indicated n (now (out .entry)) r (now (out .exit)) ⌝ }

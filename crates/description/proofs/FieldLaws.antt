@@ -147,7 +147,7 @@ attribute-none s a h =
     absurd-true z = cc
 
 module _ (a : Address) (s : Stream) where
-  -- each needed line comes before
+  -- each needed line comes before it
   later-rest : (letter : ℕ) (v : List ℕ) → (letter ≡ 97 → ⊥) → afterField (afterMedia a s) letter v ≡ cond (has letter skippedLetters) (some (afterMedia a s)) none
   unfolding afterField versionLine originLine sessionLine connectionLine timeLine mediaLine needed afterMedia has
   later-rest letter v k =

@@ -33,6 +33,7 @@ unfoldable pub emptyDraft : Draft
 emptyDraft = record { had = 0; address = V4 0; stream = bareStream [] 0 [] 0 }
 
 -- ---- the needed lines: once each, and in this order; v is a line's value, after its letter and `=`
+-- d, after n needed lines
 unfoldable pub reached : ℕ → Draft → Draft
 reached n d = record { had = n; address = d .address; stream = d .stream }
 
@@ -40,7 +41,7 @@ reached n d = record { had = n; address = d .address; stream = d .stream }
 unfoldable pub needed : ℕ → Bool → Draft → Option Draft
 needed n right d = when (eqb (d .had) n) (when right (some (reached (n + 1) d)))
 
--- `v=0`
+-- `v=0`, the first
 unfoldable pub versionLine : Draft → List ℕ → Option Draft
 versionLine d v = needed 0 (same (ascii "0") v) d
 
@@ -58,10 +59,11 @@ ip6Word = ascii "IP6"
 unfoldable pub isOrigin : List ℕ → Bool
 isOrigin v = eqb (tokenCount v) 6 && (same inWord (token 3 v) && (same ip4Word (token 4 v) || same ip6Word (token 4 v)))
 
+-- after v
 unfoldable pub originLine : Draft → List ℕ → Option Draft
 originLine d v = needed 1 (isOrigin v) d
 
--- `s=`: any value, empty too
+-- `s=`, after v and o: any value, empty too
 unfoldable pub sessionLine : Draft → Option Draft
 sessionLine d = needed 2 true d
 
@@ -76,6 +78,7 @@ connectionOf v = cond (eqb (tokenCount v) 3 && same inWord (token 0 v)) (address
 unfoldable pub withAddress : Draft → Address → Draft
 withAddress d a = record { had = 4; address = a; stream = d .stream }
 
+-- after v, o and s
 unfoldable pub connectionLine : Draft → List ℕ → Option Draft
 connectionLine d v =
     when (eqb (d .had) 3)
@@ -86,16 +89,19 @@ connectionLine d v =
 unfoldable pub isTime : List ℕ → Bool
 isTime v = eqb (tokenCount v) 2 && (digitRun (token 0 v) && digitRun (token 1 v))
 
+-- after v, o, s and c
 unfoldable pub timeLine : Draft → List ℕ → Option Draft
 timeLine d v = needed 4 (isTime v) d
 
--- The ipbcp line. After the five others it can only be the first such line, which version and type were read from (number 9).
+-- The ipbcp line, after v, o, s, c and t. There it can only be the first such line, from which version and type were read
+-- (number 9).
 unfoldable pub ipbcpLine : Draft → Option Draft
 ipbcpLine d = needed 5 true d
 
 unfoldable pub withStream : Draft → Stream → Draft
 withStream d s = record { had = 7; address = d .address; stream = s }
 
+-- `m=`, the last
 unfoldable pub mediaLine : Draft → List ℕ → Option Draft
 mediaLine d v = when (eqb (d .had) 6) (Option·map (withStream d) (mediaOf v))
 

@@ -20,7 +20,7 @@ pub struct Preamble {
     pub address: Address,
 }
 
-// The preamble with one line more.
+// The preamble with one more line.
 pub enum Extended {
     Go(Preamble),
     Wrong,
@@ -46,7 +46,7 @@ pub fn is_ipbcp(letter: u8, t: &[u8]) -> bool
     false
 }
 
-// A line of this letter whose value is t is skipped, wherever it comes before the media line.
+// A line of this letter whose value is t is skipped, anywhere before the media line.
 pub fn is_skipped(letter: u8, t: &[u8]) -> bool
     ensures { λ r. ⌜ r ≡ isSkipped letter (now (t .entry)) ⌝ }
 {
@@ -59,7 +59,7 @@ pub fn is_skipped(letter: u8, t: &[u8]) -> bool
     !media::is_attribute(t)
 }
 
-// The preamble p with the line of this letter whose value is t. The ipbcp line and the media line are no part of it.
+// The preamble p with the line of this letter whose value is t. The ipbcp line and the media line are not part of it.
 pub fn preamble_line(p: Preamble, letter: u8, t: &[u8]) -> Extended
     ensures { λ r. ⌜ extendedBy r ≡ preambleLine (preambleBy p) letter (now (t .entry)) ⌝ }
 {

@@ -1,4 +1,4 @@
-// The lines by their letter; t is what comes after the letter and '='.
+// The lines, each by its letter; t is the value, after the letter and `=`.
 ghost use mathlib.Core.Path.{_≡_};
 ghost use Prim.Native.Nat.{_<_};
 ghost use Rattle.octets.specs.Split.{has};

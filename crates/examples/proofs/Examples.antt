@@ -15,7 +15,7 @@ use Rattle.bat.specs.Judging.{indexBy, secondChoice, outcomeOf, noticeOf, judge
 use Rattle.address.specs.declared.Address.the-variants.{V4}
 use Rattle.address.specs.declared.Parsed.{Parsed}
 use Rattle.address.specs.declared.Parsed.the-variants.{Unicast, Unreadable}
-use Rattle.address.specs.Kinds.{isUnicast, kind4}
+use Rattle.address.specs.Kinds.{isUnicast, ifUnicast4}
 use Rattle.address.specs.Parts.{allParts, inBase}
 use Rattle.address.specs.Ipv4.{isOctet, octetValue, isDotted, dottedValue, readV4}
 use Rattle.bctp.specs.Packet.{rightFirst, rightSecond, hasError, versionOf, protocolOf, versionIndicator, protocolIndicator, Opened, tunnelReply, openedBy, openedPacket}
@@ -95,5 +95,5 @@ examples =
     ∷ []
 
 all-right : map (λ x. given (x .asked)) examples ≡ map (λ x. x .right) examples
-unfolding given examples lengthNumber diagnostics diagnosed isAction lengthOf unmarked header whole countedBy elementBy sizedBy front onFront walkFrom walk fold elements roomFor cut ituCodec rightSingle actionIn withSingle onCodecs isSingle codecThen codecsIn codecListIn decoding indexBy secondChoice outcomeOf noticeOf judgement findingBy finding judgedBy judgedData Option·elim onFirst splitOn isDigit allDigits valueFrom shortest numberFrom readNumber onNumber isUnicast kind4 allParts inBase isOctet octetValue isDotted dottedValue readV4 rightFirst rightSecond hasError versionOf protocolOf versionIndicator protocolIndicator openedBy openedPacket
+unfolding given examples lengthNumber diagnostics diagnosed isAction lengthOf unmarked header whole countedBy elementBy sizedBy front onFront walkFrom walk fold elements roomFor cut ituCodec rightSingle actionIn withSingle onCodecs isSingle codecThen codecsIn codecListIn decoding indexBy secondChoice outcomeOf noticeOf judgement findingBy finding judgedBy judgedData Option·elim onFirst splitOn isDigit allDigits valueFrom shortest numberFrom readNumber onNumber isUnicast ifUnicast4 allParts inBase isOctet octetValue isDotted dottedValue readV4 rightFirst rightSecond hasError versionOf protocolOf versionIndicator protocolIndicator openedBy openedPacket
 all-right = refl

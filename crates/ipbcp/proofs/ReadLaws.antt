@@ -91,7 +91,7 @@ module _ (m : List ℕ) (y : Head) (is : y ≡ headIn m) where
 
 pub ruleset byTypes = (by-untyped, by-version, by-type, by-wrong)
 
--- ---- after the ipbcp line, which says h: u says whether what stands there is made of lines
+-- ---- after the ipbcp line, which says h: u says whether the rest is made of lines
 module _ (m : List ℕ) (h : Head) (from : ℕ) (told : cond (inLines (drop from m)) h Untyped ≡ headIn m) (r : List ℕ) (at : r ≡ drop from m) (u : Bool) (is : u ≡ inLines r) where
   told-yes : u ≡ true → h ≡ headIn m
   told-yes e = let k : inLines (drop from m) ≡ true = rw (← at) (sym is ∙ e) in rw k at told
@@ -99,7 +99,7 @@ module _ (m : List ℕ) (h : Head) (from : ℕ) (told : cond (inLines (drop from
   told-no : u ≡ false → Untyped ≡ headIn m
   told-no e = let k : inLines (drop from m) ≡ false = rw (← at) (sym is ∙ e) in rw k at told
 
--- no more than version and type is read
+-- only version and type are read
 module _ (m : List ℕ) (version : ℕ) (kind : MessageType) (from : ℕ) (by : TypeAlone m version kind from) (r : List ℕ) (at : r ≡ drop from m) (u : Bool) (is : u ≡ inLines r) where
   pub alone-yes : u ≡ true → readingIn m (answer.Typed version kind) ≡ some (byHead m (headIn m))
   unfolding readingIn

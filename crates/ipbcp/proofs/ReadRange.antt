@@ -353,7 +353,7 @@ module _ (k : MessageType) (a : Address) (s : Stream) where
   head-right m l Untyped q e = let z : _≡_ {A = ℕ} 0 1 = cc in absurd (omega arith)
   head-right m l (Typed version j) q e = go (eqb version 1) (isDescribed j) e
     where
-      go : (t u : Bool) → cond t (cond u (concluded j (afterLines emptyDraft (lines m))) (typed version j)) (typed version j) ≡ described k a s → Right s
+      go : (t u : Bool) → cond (t && u) (concluded j (afterLines emptyDraft (lines m))) (typed version j) ≡ described k a s → Right s
       go true true p = lined-right m j (read-lined m (Typed version j) q version j refl) p
       go true false p = let z : _≡_ {A = ℕ} 0 1 = cc in absurd (omega arith)
       go false u p = let z : _≡_ {A = ℕ} 0 1 = cc in absurd (omega arith)

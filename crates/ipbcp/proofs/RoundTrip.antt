@@ -237,7 +237,7 @@ module _ (own : Address) (f : fits own) (u : isUnicast own ≡ true) where
       rw (le-leb (length (linesText ts)) mostRead (omega arith), inLines-written ts all, lines-written ts all, message-head own c)
       (by-kind c h (linesText ts) (lines-written ts all))
 
--- what stands to be written is in range, is short, and is the text
+-- the octets to write are the text, in range and not too long
 pub octets-are : (own : Address) (c : Content) (t : List ℕ) → messageOctets own c ≡ some t
     → (isUnicast own ≡ true) × (rightContent c ≡ true) × (length t ≤ mostWritten) × (t ≡ messageText own c)
 unfolding messageOctets

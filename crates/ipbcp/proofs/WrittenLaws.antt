@@ -1,4 +1,5 @@
--- Each line of a message that is written is one: its texts have no octet that ends a line, or are told to have none.
+-- Each line of a written message is a line: none of its texts has an octet that ends a line, by its form or because it is in
+-- range.
 -- Assumes nothing.
 use Prim.Native.Nat.{ℕ, _+_, _≤_, _<_}
 use mathlib.Core.Path.{_≡_, refl, _∙_}

@@ -55,7 +55,7 @@ pub record ReadsMedia (m : List ℕ) (v : Span) (from : ℕ) (r : Taken) : Type 
 pub record ReadsStream (m : List ℕ) (from : ℕ) (r : Taken) : Type 0 where
   pub is : (a : Address) → afterMediaBy a m r ≡ complete (afterText (afterIpbcp a) (drop from m))
 
--- the lines of m before `from` are right; the last is the ipbcp line, which says h, and the address is theirs
+-- the lines of m before `from` are right; the last is the ipbcp line, which says h, and `c=` has the address
 pub record Reached (m : List ℕ) (h : Head) (address : Address) (from : ℕ) : Type 0 where
   pub lines : afterText (afterIpbcp address) (drop from m) ≡ afterText emptyDraft m
   pub head : cond (inLines (drop from m)) h Untyped ≡ headIn m
@@ -65,7 +65,7 @@ pub record TypeAlone (m : List ℕ) (version : ℕ) (kind : MessageType) (from :
   pub head : cond (inLines (drop from m)) (Typed version kind) Untyped ≡ headIn m
   pub alone : byHead m (Typed version kind) ≡ typed version kind
 
--- they are those of a Request or Accepted of version 1
+-- the lines of m before `from` are right, and are those of a Request or Accepted of version 1
 pub record Describes (m : List ℕ) (kind : MessageType) (address : Address) (from : ℕ) : Type 0 where
   pub reached : Reached m (Typed 1 kind) address from
   pub more : isDescribed kind ≡ true

@@ -2,7 +2,7 @@
 -- of `description` and `Attributes` of `media`, its version and type in `Types`.
 use Prim.Native.Nat.{ℕ}
 use mathlib.Core.List.{List, [], _∷_}
-use mathlib.Core.Bool.{Bool, true, false, cond}
+use mathlib.Core.Bool.{Bool, true, false, _&&_, cond}
 use mathlib.Core.Option.{Option, none, some, Option·elim}
 use lib.ListN.{length}
 use lib.Dec.{eqb, leb}
@@ -44,11 +44,10 @@ isDescribed Rejected = false
 unfoldable pub byHead : List ℕ → Head → Reading
 byHead m Untyped = refused 9
 byHead m (Typed version kind) =
-    cond (eqb version 1)
-    (cond (isDescribed kind) (concluded kind (afterLines emptyDraft (lines m))) (typed version kind))
+    cond (eqb version 1 && isDescribed kind) (concluded kind (afterLines emptyDraft (lines m)))
     (typed version kind)
 
--- number 8 is given above this
+-- the longest message that is read; a longer one is refused by 8
 abbrev pub mostRead : ℕ
 mostRead = 512
 

@@ -43,11 +43,11 @@ typedFrom s =
     when (leb version 255)
     (Option·map (Typed version) (typeNamed (token 1 s))))
 
--- the same; `Untyped` is refused by 9
+-- the same as a `Head`; number 9 refuses `Untyped`
 unfoldable pub headFrom : List ℕ → Head
 headFrom s = Option·elim (typedFrom s) Untyped (λ h. h)
 
--- s without its first octet, if that is a blank: there may be one
+-- s without the blank at its start, if it has one
 unfoldable pub withoutBlank : List ℕ → List ℕ
 withoutBlank [] = []
 withoutBlank (b ∷ bs) = cond (eqb b blank) bs (b ∷ bs)

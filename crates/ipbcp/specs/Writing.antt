@@ -41,15 +41,15 @@ hostText a = inWord ++ (blank ∷ (familyWord a ++ (blank ∷ addressText a)))
 abbrev pub versionText : List ℕ
 versionText = ascii "v=0"
 
--- the own address
+-- our own address
 unfoldable pub originText : Address → List ℕ
 originText a = ascii "o=- 0 0 " ++ hostText a
 
--- a blank, since `s=` needs one octet at least
+-- a blank, since RFC 4566 allows no empty `s=`
 abbrev pub sessionText : List ℕ
 sessionText = ascii "s= "
 
--- the own address
+-- our own address
 unfoldable pub connectionText : Address → List ℕ
 connectionText a = ascii "c=" ++ hostText a
 

@@ -34,7 +34,7 @@ enum Word {
     Unknown,
 }
 
-// What the ipbcp line says: the version and the type, if it is one.
+// What the ipbcp line says: the version and the type, if both are readable.
 pub enum Head {
     Typed { version: u8, kind: MessageType },
     Untyped,
@@ -57,7 +57,7 @@ pub enum Message {
     },
 }
 
-// A message to be written. The texts of a stream are places in the source that is given beside it.
+// A message to be written. The texts of a stream are places in the source that is passed with it.
 pub enum Body {
     Request(Stream),
     Accepted(Stream),
@@ -137,7 +137,7 @@ fn is_described(kind: MessageType) -> bool
     }
 }
 
-// The answer to m, of whose lines one is wrong or missing: its version and type alone, or number 9 or 10.
+// The answer to m, which has a wrong line or lacks one: only its version and type, or number 9 or 10.
 fn by_type(m: &[u8]) -> Message
     requires { ⌜ complete (afterText emptyDraft (now m)) ≡ none ⌝ }
     ensures { λ r. ⌜ readingIn (now (m .entry)) r ≡ some (byHead (now (m .entry)) (headIn (now (m .entry)))) ⌝ }
@@ -154,7 +154,7 @@ fn by_type(m: &[u8]) -> Message
     Message::Typed { version, kind }
 }
 
-// The answer to m by this version and type alone; the lines from `from` on are looked at for their form.
+// The answer to m, which is only this version and type; of the lines from `from` on, only the form is checked.
 fn type_alone(version: u8, kind: MessageType, m: &[u8], from: usize) -> Message
     requires { ⌜ TypeAlone (now m) version kind from ⌝ }
     ensures { λ r. ⌜ readingIn (now (m .entry)) r ≡ some (byHead (now (m .entry)) (headIn (now (m .entry)))) ⌝ }

@@ -1,6 +1,7 @@
 // The version and the type of a message.
 ghost use mathlib.Core.Path.{_≡_};
-ghost use lib.ListN.{drop};
+ghost use lib.ListN.{length, drop};
+ghost use Rattle.description.specs.Draft.{ipbcpWord};
 ghost use Rattle.ipbcp.specs.Types.{typeNamed, headFrom, withoutBlank, headIn};
 ghost use Rattle.ipbcp.specs.Private.{wordIn};
 use crate::Head;
@@ -57,7 +58,7 @@ fn head_of(s: &[u8]) -> Head
     }
 }
 
-// s less a blank at its start.
+// s without the blank at its start, if it has one.
 fn without_blank(s: &[u8]) -> &[u8]
     ensures { λ r. ⌜ now r ≡ withoutBlank (now (s .entry)) ⌝ }
 {
@@ -70,14 +71,14 @@ fn without_blank(s: &[u8]) -> &[u8]
     s
 }
 
-// What an ipbcp line says; t is its value.
+// What an ipbcp line says; t is its value, which begins with the six octets of "ipbcp:".
 pub(crate) fn read_value(t: &[u8]) -> Head
-    ensures { λ r. ⌜ r ≡ headFrom (withoutBlank (drop 6 (now (t .entry)))) ⌝ }
+    ensures { λ r. ⌜ r ≡ headFrom (withoutBlank (drop (length ipbcpWord) (now (t .entry)))) ⌝ }
 {
     head_of(without_blank(after(t, 6)))
 }
 
-// The version and the type of m. Lines after the ipbcp line are looked at for their form alone.
+// The version and the type of m. Of the lines after the ipbcp line, only the form is checked.
 pub fn read_head(m: &[u8]) -> Head
     ensures { λ r. ⌜ r ≡ headIn (now (m .entry)) ⌝ }
 {

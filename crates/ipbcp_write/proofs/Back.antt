@@ -1,4 +1,5 @@
--- What `write_message` answers to have written is read back from the buffer as what was given: the octets at its front are those of the message, which are read so.
+-- What `write_message` reports as written is read back from the buffer as what was given: the octets at its front are the
+-- message, which is read so.
 -- Assumes nothing.
 use Prim.Native.Nat.{ℕ}
 use mathlib.Core.Path.{_≡_, refl, sym, ap}

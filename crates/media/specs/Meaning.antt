@@ -20,6 +20,7 @@ use Rattle.media.specs.Stream.{Stream}
 unfoldable pub spansOf : Texts → List Span
 spansOf x = take (x .count) (x .first ∷ x .second ∷ x .third ∷ [])
 
+-- their texts
 unfoldable pub textsBy : List ℕ → Texts → List (List ℕ)
 textsBy m x = map (textOf m) (spansOf x)
 
@@ -47,6 +48,7 @@ barePlaces media port transport payload = record {
   ptime = 0;
 }
 
+-- the stream with the line that was read, if the line is right
 unfoldable pub takenBy : List ℕ → Taken → Option Stream
 takenBy m (TakenStream s) = some (streamBy m s)
 takenBy m Wrong = none

@@ -53,7 +53,7 @@ pub fn stream_inside(s: Stream, m: &[u8]) -> bool
     false
 }
 
-// What of sp lies inside m.
+// The part of sp that lies inside m.
 fn clamp(m: &[u8], sp: Span) -> Span
     ensures { λ r. ⌜ KeptSpan (now (m .entry)) sp r ⌝ }
 {

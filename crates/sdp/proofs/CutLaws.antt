@@ -1,5 +1,5 @@
--- Laws of `lines` and `inLines` for callers, one line after another: the first LF parts the line at the front from the rest, and
--- the rest is cut in the same way.
+-- Laws of `lines` and `inLines` for callers, one line after another: the first LF separates the first line from the rest, which
+-- is cut in the same way.
 -- Assumes nothing.
 use Prim.Native.Nat.{ℕ, _+_, _-_, _≤_, _<_}
 use mathlib.Core.Path.{_≡_, refl, sym, ap, _∙_}

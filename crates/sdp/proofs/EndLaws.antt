@@ -1,4 +1,4 @@
--- Laws of `pass_fours`, `find_end` and `next_line`: what stands there up to the first octet that is not plain is `plainPart`,
+-- Laws of `pass_fours`, `find_end` and `next_line`: what comes before the first octet that is not plain is `plainPart`,
 -- and the octets after it say whether a line ends there.
 -- Assumes nothing.
 use Prim.Native.Nat.{ℕ, suc, _+_, _-_, _≤_, _<_}
@@ -19,7 +19,7 @@ use Rattle.octets.proofs.SplitLaws.{before-more}
 use Rattle.octets.proofs.CaseLaws.{by-bool}
 use Rattle.sdp.specs.Lines.{isPlain, allPlain, isLine}
 use Rattle.sdp.specs.Meaning.{line, noLine, firstLine, lineIn}
-use Rattle.sdp.specs.Private.{plainPart, PlainTo, Ends, starts}
+use Rattle.sdp.specs.Private.{plainPart, PlainTo, Ends, isStart}
 use Rattle.sdp.specs.declared.Line.the-variants.{Text, NoLine}
 use Rattle.sdp.proofs.PlainLaws.{is-plain, line-start, start-front, first-lf, first-crlf, first-open, first-last, first-short, first-start, first-wrong}
 
@@ -64,7 +64,7 @@ part-all (b ∷ bs) =
     (λ e. rw e (leb·suc-suc (length bs) (length (plainPart bs)) ∙ part-all bs))
     (λ e. rw e (lt-leb (suc (length bs)) 0 (omega arith)))
 
--- all of s is plain where its plain part is as long
+-- all of s is plain if its plain part is as long as s
 pub plain-all : (s : List ℕ) (n : ℕ) → Ends s 0 n → (t : Bool) → t ≡ leb (length s) n → t ≡ allPlain s
 plain-all s n f t p =
     let z : n ≡ 0 + length (plainPart (drop 0 s)) = f .is in
@@ -101,19 +101,19 @@ module _ (m : List ℕ) (i : ℕ) where
 
     -- `pass_fours`, at n
     module _ (stop : ℕ) (s : stop ≡ length m - 3) (l : n < stop) where
-      module _ (a : 14 ≤ getD m n 0) where
+      module _ (a : 13 < getD m n 0) where
         pub to-1 : PlainTo m i (n + 1)
         to-1 = to-next n f (omega arith) (is-plain (getD m n 0) a)
 
-        module _ (b : 14 ≤ getD m (n + 1) 0) where
+        module _ (b : 13 < getD m (n + 1) 0) where
           pub to-2 : PlainTo m i (n + 2)
           to-2 = let z : n + 1 + 1 ≡ n + 2 = omega arith in rw z at (to-next (n + 1) to-1 (omega arith) (is-plain (getD m (n + 1) 0) b))
 
-          module _ (c : 14 ≤ getD m (n + 2) 0) where
+          module _ (c : 13 < getD m (n + 2) 0) where
             pub to-3 : PlainTo m i (n + 3)
             to-3 = let z : n + 2 + 1 ≡ n + 3 = omega arith in rw z at (to-next (n + 2) to-2 (omega arith) (is-plain (getD m (n + 2) 0) c))
 
-            pub to-4 : 14 ≤ getD m (n + 3) 0 → PlainTo m i (n + 4)
+            pub to-4 : 13 < getD m (n + 3) 0 → PlainTo m i (n + 4)
             to-4 d = let z : n + 3 + 1 ≡ n + 4 = omega arith in rw z at (to-next (n + 3) to-3 (omega arith) (is-plain (getD m (n + 3) 0) d))
 
 pub ruleset fours = (to-start, to-1, to-2, to-3, to-4)
@@ -160,14 +160,14 @@ module _ (m : List ℕ) (i e : ℕ) (f : Ends m i e) where
     pub cut-short : e - i < 2 → lineIn m NoLine ≡ some (firstLine (drop i m))
     cut-short l = no-line (first-short p plain (getD m e 0) stops (drop (e + 1) m) (omega (arith, long)))
 
-    module _ (l : 2 ≤ e - i) (t : Bool) (q : t ≡ starts (getD m i 0) (getD m (i + 1) 0)) where
+    module _ (l : 2 ≤ e - i) (t : Bool) (q : t ≡ isStart (getD m i 0) (getD m (i + 1) 0)) where
       octet : (k : ℕ) → k < 2 → getD p k 0 ≡ getD m (i + k) 0
       octet k g =
           ap (λ (w : List ℕ). getD w k 0) (sym (part-take (drop i m)))
           ∙ getD-take (length p) (drop i m) k 0 (omega (arith, long))
           ∙ getD-drop i m k 0
 
-      start : starts (getD p 0 0) (getD p 1 0) ≡ t
+      start : isStart (getD p 0 0) (getD p 1 0) ≡ t
       start = rw (octet 0 (omega arith), octet 1 (omega arith), add-zero i) (sym q)
 
       pub cut-other : t ≡ false → lineIn m NoLine ≡ some (firstLine (drop i m))

@@ -16,7 +16,7 @@ use Rattle.octets.proofs.CaseLaws.{by-bool, by-eq}
 use Rattle.octets.proofs.SplitLaws.{before-here, before-more}
 use Rattle.sdp.specs.Lines.{withoutCr, isPlain, allPlain, isLine}
 use Rattle.sdp.specs.Meaning.{line, noLine, firstLine}
-use Rattle.sdp.specs.Private.{starts}
+use Rattle.sdp.specs.Private.{isStart}
 
 -- ---- plain text
 pub plain-append : (xs ys : List ℕ) → allPlain (xs ++ ys) ≡ (allPlain xs && allPlain ys)
@@ -29,7 +29,7 @@ pub plain-parts : (b : ℕ) (bs : List ℕ) → allPlain (b ∷ bs) ≡ true →
 unfolding allPlain
 plain-parts b bs h = and-eq-true-iff (isPlain b) (allPlain bs) .0 h
 
--- a plain octet is none that is not plain
+-- a plain octet differs from one that is not plain
 plain-ne : (b c : ℕ) → isPlain b ≡ true → isPlain c ≡ false → b ≡ c → ⊥
 plain-ne b c h k e = let z : _≡_ {A = ℕ} 0 1 = cc in absurd (omega arith)
 
@@ -53,7 +53,7 @@ start-and true true false w = refl
 start-and true false z w = refl
 start-and false y z w = refl
 
-line-parts : (a e : ℕ) (v : List ℕ) → isLine (a ∷ e ∷ v) ≡ (starts a e && allPlain v)
+line-parts : (a e : ℕ) (v : List ℕ) → isLine (a ∷ e ∷ v) ≡ (isStart a e && allPlain v)
 unfolding isLine
 line-parts a e v = start-and (leb 97 a) (leb a 122) (eqb e 61) (allPlain v)
 
@@ -68,7 +68,7 @@ line-plain (a ∷ e ∷ v) h =
     simp (is-plain a (omega (arith, leb-true 97 a (p .0))), is-plain e (omega (arith, eqb-true e 61 (r .0))), r .1)
 
 -- a line of its letter, '=' and a plain value
-pub line-is : (a : ℕ) (v : List ℕ) → starts a 61 ≡ true → allPlain v ≡ true → isLine (a ∷ 61 ∷ v) ≡ true
+pub line-is : (a : ℕ) (v : List ℕ) → isStart a 61 ≡ true → allPlain v ≡ true → isLine (a ∷ 61 ∷ v) ≡ true
 line-is a v s h = line-parts a 61 v ∙ rw (s, h)
 
 line-short : (t : List ℕ) → length t < 2 → isLine t ≡ false
@@ -86,14 +86,14 @@ line-not p c w h =
     let z : _≡_ {A = ℕ} 0 1 = cc in absurd (omega arith))
     (λ t. t)
 
--- two octets or more are a line by the first two, where the others are plain
-pub line-start : (p : List ℕ) → 2 ≤ length p → starts (getD p 0 0) (getD p 1 0) ≡ true → allPlain p ≡ true → isLine p ≡ true
+-- two or more octets are a line if the first two start one and the others are plain
+pub line-start : (p : List ℕ) → 2 ≤ length p → isStart (getD p 0 0) (getD p 1 0) ≡ true → allPlain p ≡ true → isLine p ≡ true
 line-start [] s e h = absurd (omega arith)
 line-start (a ∷ []) s e h = absurd (omega arith)
 line-start (a ∷ b ∷ v) s e h = line-parts a b v ∙ rw e (plain-parts b v (plain-parts a (b ∷ v) h .1) .1)
 
 -- they are a letter, '=' and the others
-pub start-front : (p : List ℕ) → 2 ≤ length p → starts (getD p 0 0) (getD p 1 0) ≡ true → p ≡ getD p 0 0 ∷ 61 ∷ drop 2 p
+pub start-front : (p : List ℕ) → 2 ≤ length p → isStart (getD p 0 0) (getD p 1 0) ≡ true → p ≡ getD p 0 0 ∷ 61 ∷ drop 2 p
 start-front [] s e = absurd (omega arith)
 start-front (a ∷ []) s e = absurd (omega arith)
 start-front (a ∷ b ∷ v) s e =
@@ -101,12 +101,12 @@ start-front (a ∷ b ∷ v) s e =
     let g = and-eq-true-iff (leb a 122) (eqb b 61) .0 (f .1) in
     rw (eqb-true b 61 (g .1))
 
-line-other : (p w : List ℕ) → 2 ≤ length p → starts (getD p 0 0) (getD p 1 0) ≡ false → isLine (p ++ w) ≡ false
+line-other : (p w : List ℕ) → 2 ≤ length p → isStart (getD p 0 0) (getD p 1 0) ≡ false → isLine (p ++ w) ≡ false
 line-other [] w s e = absurd (omega arith)
 line-other (a ∷ []) w s e = absurd (omega arith)
 line-other (a ∷ b ∷ v) w s e = line-parts a b (v ++ w) ∙ rw e
 
--- ---- the part before an LF, less a CR
+-- ---- the part before an LF, without a CR
 before-plain : (p q : List ℕ) → allPlain p ≡ true → before 10 (p ++ q) ≡ p ++ before 10 q
 before-plain [] q h = refl
 before-plain (b ∷ p) q h =
@@ -171,7 +171,7 @@ pub first-last : (p : List ℕ) (c : ℕ) → allPlain p ≡ true → (c ≡ 10 
 unfolding has
 first-last p c h e = first-none p (c ∷ []) h (rw (ne-eqb c 10 e))
 
--- after p stands c, which is not plain
+-- p is followed by c, which is not plain
 module _ (p : List ℕ) (h : allPlain p ≡ true) (c : ℕ) (k : isPlain c ≡ false) (r : List ℕ) where
   pub first-short : length p < 2 → firstLine (p ++ (c ∷ r)) ≡ noLine
   unfolding withoutCr
@@ -184,7 +184,7 @@ module _ (p : List ℕ) (h : allPlain p ≡ true) (c : ℕ) (k : isPlain c ≡ f
       (λ _ _ g. bare (rw (before-more 10 c r e) g))
       (λ w g. first-not p (c ∷ r) h (rw (before-more 10 c r e, g) (line-not p c w k))))
 
-  pub first-start : 2 ≤ length p → starts (getD p 0 0) (getD p 1 0) ≡ false → firstLine (p ++ (c ∷ r)) ≡ noLine
+  pub first-start : 2 ≤ length p → isStart (getD p 0 0) (getD p 1 0) ≡ false → firstLine (p ++ (c ∷ r)) ≡ noLine
   first-start s e = first-not p (c ∷ r) h (line-other p (withoutCr (before 10 (c ∷ r))) s e)
 
   -- no line end: c is neither an LF nor the CR before one

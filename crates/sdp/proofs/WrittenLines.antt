@@ -10,7 +10,7 @@ use Rattle.sdp.specs.Written.{lineText, linesText}
 use Rattle.sdp.proofs.PlainLaws.{first-crlf}
 use Rattle.sdp.proofs.CutLaws.{lines-nil, inLines-nil, lines-first, inLines-first}
 
--- a written line stands at the front, and what is written after it is the rest
+-- a written line is the first line, and what is written after it is the rest
 written-first : (t r : List ℕ) → isLine t ≡ true → firstLine (lineText t ++ r) ≡ line t r
 unfolding lineText
 written-first t r h = rw (append-assoc t (13 ∷ 10 ∷ []) r) (first-crlf t r h)

@@ -1,4 +1,5 @@
--- Document 01, "Message, version 1": the lines that a message is made of (RFC 4566), and what of number 9 is about lines.
+-- Document 01, "Message, version 1": the lines that a message is made of (RFC 4566), and the part of number 9 that is about
+-- lines.
 use Prim.Native.Nat.{ℕ}
 use mathlib.Core.List.{List, [], _∷_}
 use mathlib.Core.Bool.{Bool, true, false, not, _&&_, cond}
@@ -7,14 +8,14 @@ use lib.Dec.{eqb, leb}
 use Rattle.octets.specs.Split.{splitOn}
 use Rattle.octets.specs.Text.{char, lf, cr}
 
--- ---- a line ends in LF, or in CR and LF; so does the last
--- p less a CR at its end
+-- ---- a line, the last one too, ends in LF or in CR and LF
+-- p without the CR at its end, if it has one
 unfoldable pub withoutCr : List ℕ → List ℕ
 withoutCr [] = []
 withoutCr (b ∷ []) = cond (eqb b cr) [] (b ∷ [])
 withoutCr (b ∷ c ∷ bs) = b ∷ withoutCr (c ∷ bs)
 
--- of the parts between LFs, those that an LF ends, less the CR before it
+-- of the parts between LFs, those that an LF ends, without the CR before it
 unfoldable pub endedParts : List (List ℕ) → List (List ℕ)
 endedParts [] = []
 endedParts (p ∷ []) = []

@@ -24,6 +24,6 @@ pub record Ends (m : List ℕ) (i r : ℕ) : Type 0 where
   pub is : r ≡ i + length (plainPart (drop i m))
   pub low : i ≤ r
 
--- a line starts with these two octets: a lower-case letter and `=`
-abbrev pub starts : ℕ → ℕ → Bool
-starts a e = leb (char "a") a && (leb a (char "z") && eqb e (char "="))
+-- a line starts with the octets a and e: a lower-case letter and `=`
+abbrev pub isStart : ℕ → ℕ → Bool
+isStart a e = leb (char "a") a && (leb a (char "z") && eqb e (char "="))

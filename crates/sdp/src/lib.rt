@@ -4,7 +4,7 @@ ghost use mathlib.Core.Option.{some};
 ghost use lib.ListN.{drop};
 ghost use Rattle.sdp.specs.Lines.{isPlain, allPlain, inLines};
 ghost use Rattle.sdp.specs.Meaning.{firstLine, lineIn};
-ghost use Rattle.sdp.specs.Private.{PlainTo, Ends, starts};
+ghost use Rattle.sdp.specs.Private.{PlainTo, Ends, isStart};
 use octets::Span;
 use octets::parts::last_three;
 
@@ -32,23 +32,23 @@ fn is_plain(b: u8) -> bool
     b != b'\n'
 }
 
-// A place at i or after it, with plain octets alone between: four are passed at a time, as long as each is above CR.
+// A place at or after i with only plain octets between. Octets above CR are plain; they are passed four at a time.
 fn pass_fours(m: &[u8], i: usize) -> usize
     ensures { λ r. ⌜ PlainTo (now (m .entry)) i r ⌝ }
 {
     let stop = last_three(m);
     let mut n = i;
     while n < stop {
-        if m[n] < 14 {
+        if m[n] <= b'\r' {
             return n;
         }
-        if m[n + 1] < 14 {
+        if m[n + 1] <= b'\r' {
             return n + 1;
         }
-        if m[n + 2] < 14 {
+        if m[n + 2] <= b'\r' {
             return n + 2;
         }
-        if m[n + 3] < 14 {
+        if m[n + 3] <= b'\r' {
             return n + 3;
         }
         n += 4;
@@ -56,7 +56,7 @@ fn pass_fours(m: &[u8], i: usize) -> usize
     n
 }
 
-// The place of the first 0, CR or LF of m at i or after it, or the end.
+// The place of the first 0, CR or LF of m at or after i, or the end.
 fn find_end(m: &[u8], i: usize) -> usize
     ensures { λ r. ⌜ Ends (now (m .entry)) i r ⌝ }
 {
@@ -79,9 +79,9 @@ pub fn all_plain(s: &[u8]) -> bool
     s.len() <= find_end(s, 0)
 }
 
-// A line starts with these two: a lower-case letter and '='.
+// A line starts with these two octets: a lower-case letter and `=`.
 fn is_start(a: u8, e: u8) -> bool
-    ensures { λ r. ⌜ r ≡ starts a e ⌝ }
+    ensures { λ r. ⌜ r ≡ isStart a e ⌝ }
 {
     if a < b'a' {
         return false;

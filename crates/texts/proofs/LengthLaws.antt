@@ -1,4 +1,4 @@
--- Laws of a text cut into just so many tokens: its first blank parts the first token from the others.
+-- Laws of a text cut into a given number of tokens: its first blank separates the first token from the others.
 -- Assumes nothing.
 use Prim.Native.Nat.{ℕ, suc, _+_, _-_, _^_, _≤_, _<_}
 use mir.Syntax.{w64}

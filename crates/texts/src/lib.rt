@@ -53,7 +53,7 @@ pub fn inner(m: &[u8], sp: Span, p: Span) -> Span
     }
 }
 
-// The span in m of the text of sp less its first n octets.
+// The span in m of the text of sp without its first n octets.
 pub fn skip(m: &[u8], sp: Span, n: usize) -> Span
     ensures { λ r. ⌜ textOf (now (m .entry)) r ≡ drop n (textOf (now (m .entry)) sp) ⌝ }
 {
@@ -75,7 +75,7 @@ pub fn after_blank(s: &[u8]) -> Span
     }
 }
 
-// What comes after the first token of s and its blank: nothing where that token is empty or the last.
+// What comes after the first token of s and its blank: nothing if that token is empty or the last.
 pub fn after_token(s: &[u8]) -> &[u8]
     ensures { λ r. ⌜ now r ≡ afterToken (now (s .entry)) ⌝ }
 {

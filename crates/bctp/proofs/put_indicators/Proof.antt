@@ -1,4 +1,4 @@
--- `put_indicators` meets its contract: two octets are set in front.
+-- `put_indicators` meets its contract: the first two octets are set.
 -- Assumes nothing.
 use lib.ListN.{length-set}
 use borrow.Author.Needs.{needs}

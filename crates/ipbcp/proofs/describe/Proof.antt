@@ -1,4 +1,4 @@
--- `describe` meets its contract: all lines are right, or one is not, or what stands there is not made of lines.
+-- `describe` meets its contract: all lines are right, or one is wrong, or the rest is not made of lines.
 -- Assumes nothing.
 use borrow.Author.Needs.{needs}
 use Rattle.ipbcp.proofs.describe.Statement.{statement}

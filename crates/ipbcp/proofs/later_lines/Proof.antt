@@ -1,4 +1,4 @@
--- `later_lines` meets its contract: each turn reads one line, so the lines left make of the stream what all make of the first.
+-- `later_lines` meets its contract: each step reads one line, so the lines left make of the stream what all make of the first.
 -- Assumes nothing.
 use borrow.Author.Needs.{needs}
 use Rattle.ipbcp.proofs.later_lines.Statement.{statement}

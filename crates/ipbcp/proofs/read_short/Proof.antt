@@ -1,4 +1,4 @@
--- `read_short` meets its contract: each turn reads one line, so the lines left make of the preamble what all make of the first, up to the ipbcp line.
+-- `read_short` meets its contract: each step reads one line, so the lines left make of the preamble what all make of the first, up to the ipbcp line.
 -- Assumes nothing.
 use borrow.Author.Needs.{needs}
 use Rattle.ipbcp.proofs.read_short.Statement.{statement}

@@ -1,4 +1,4 @@
--- `read_stream` meets its contract: each turn passes over a line that is skipped, up to the media line.
+-- `read_stream` meets its contract: each step passes over a line that is skipped, up to the media line.
 -- Assumes nothing.
 use borrow.Author.Needs.{needs}
 use Rattle.ipbcp.proofs.read_stream.Statement.{statement}

@@ -1,4 +1,4 @@
--- `read_typed` meets its contract: version and type say what is read on.
+-- `read_typed` meets its contract: version and type say what else is read.
 -- Assumes nothing.
 use borrow.Author.Needs.{needs}
 use Rattle.ipbcp.proofs.read_typed.Statement.{statement}

@@ -1,4 +1,4 @@
--- `push_message` meets its contract: its three parts stand one after the other.
+-- `push_message` meets its contract: its three parts come one after the other.
 -- Assumes nothing.
 use borrow.Author.Needs.{needs}
 use Rattle.ipbcp_write.proofs.push_message.Statement.{statement}

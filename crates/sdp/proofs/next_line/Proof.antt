@@ -1,4 +1,4 @@
--- `next_line` meets its contract: the tests of the code say which octets stand at both ends of the plain part.
+-- `next_line` meets its contract: the tests of the code say which octets are at both ends of the plain part.
 -- Assumes nothing.
 use borrow.Author.Needs.{needs}
 use Rattle.sdp.proofs.next_line.Statement.{statement}

@@ -74,38 +74,38 @@ returns-7 c = search (bad-4, needs)
 returns-8 : tie.Need-returns-8
 returns-8 c = search (long-4, needs)
 
-cast-kind : tie.Need-cast-kind
-cast-kind c = search needs
+cast-if-unicast : tie.Need-cast-if-unicast
+cast-if-unicast c = search needs
 
-mul-kind : tie.Need-mul-kind
-mul-kind c = search needs
+mul-if-unicast : tie.Need-mul-if-unicast
+mul-if-unicast c = search needs
 
-cast-kind-2 : tie.Need-cast-kind-2
-cast-kind-2 c = search needs
+cast-if-unicast-2 : tie.Need-cast-if-unicast-2
+cast-if-unicast-2 c = search needs
 
-add-kind : tie.Need-add-kind
-add-kind c = search needs
+add-if-unicast : tie.Need-add-if-unicast
+add-if-unicast c = search needs
 
-mul-kind-2 : tie.Need-mul-kind-2
-mul-kind-2 c = search needs
+mul-if-unicast-2 : tie.Need-mul-if-unicast-2
+mul-if-unicast-2 c = search needs
 
-cast-kind-3 : tie.Need-cast-kind-3
-cast-kind-3 c = search needs
+cast-if-unicast-3 : tie.Need-cast-if-unicast-3
+cast-if-unicast-3 c = search needs
 
-add-kind-2 : tie.Need-add-kind-2
-add-kind-2 c = search needs
+add-if-unicast-2 : tie.Need-add-if-unicast-2
+add-if-unicast-2 c = search needs
 
-mul-kind-3 : tie.Need-mul-kind-3
-mul-kind-3 c = search needs
+mul-if-unicast-3 : tie.Need-mul-if-unicast-3
+mul-if-unicast-3 c = search needs
 
-cast-kind-4 : tie.Need-cast-kind-4
-cast-kind-4 c = search needs
+cast-if-unicast-4 : tie.Need-cast-if-unicast-4
+cast-if-unicast-4 c = search needs
 
-add-kind-3 : tie.Need-add-kind-3
-add-kind-3 c = search needs
+add-if-unicast-3 : tie.Need-add-if-unicast-3
+add-if-unicast-3 c = search needs
 
-kind-requires : tie.Need-kind-requires
-kind-requires c κs = search needs
+if-unicast-requires : tie.Need-if-unicast-requires
+if-unicast-requires c κs = search needs
 
 returns-9 : tie.Need-returns-9
 returns-9 c = search (whole, needs)
@@ -137,15 +137,15 @@ read-ipv4-spec =
     enum-told-4
     returns-7
     returns-8
-    cast-kind
-    mul-kind
-    cast-kind-2
-    add-kind
-    mul-kind-2
-    cast-kind-3
-    add-kind-2
-    mul-kind-3
-    cast-kind-4
-    add-kind-3
-    kind-requires
+    cast-if-unicast
+    mul-if-unicast
+    cast-if-unicast-2
+    add-if-unicast
+    mul-if-unicast-2
+    cast-if-unicast-3
+    add-if-unicast-2
+    mul-if-unicast-3
+    cast-if-unicast-4
+    add-if-unicast-3
+    if-unicast-requires
     returns-9)

@@ -1,7 +1,7 @@
 -- `ipv6::read_full` meets its contract. The side that was read says whether there are eight groups, and its halves are their number's.
 -- Assumes nothing.
 use borrow.Author.Needs.{needs}
-use Rattle.address.proofs.Ipv6Laws.{full-bad, full-count, full-kind}
+use Rattle.address.proofs.Ipv6Laws.{full-bad, full-count, full-read}
 use Rattle.address.proofs.ipv6.read_full.Statement.{statement}
 use Rattle.address.proofs.ipv6.read_full.Tie as tie
 
@@ -20,11 +20,11 @@ returns c = search (full-bad, needs)
 returns-2 : tie.Need-returns-2
 returns-2 c = search (full-count, needs)
 
-kind-requires : tie.Need-kind-requires
-kind-requires c κs = search needs
+if-unicast-requires : tie.Need-if-unicast-requires
+if-unicast-requires c κs = search needs
 
 returns-3 : tie.Need-returns-3
-returns-3 c = search (full-kind, needs)
+returns-3 c = search (full-read, needs)
 
 pub read-full-spec : {M : Type 1} → statement M
 read-full-spec =
@@ -35,5 +35,5 @@ read-full-spec =
     enum-told
     returns
     returns-2
-    kind-requires
+    if-unicast-requires
     returns-3)

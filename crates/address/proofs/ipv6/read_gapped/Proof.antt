@@ -1,7 +1,7 @@
 -- `ipv6::read_gapped` meets its contract. The two sides say whether "::" stands for a group, and the halves at the end are those of the groups and the zeros between them.
 -- Assumes nothing.
 use borrow.Author.Needs.{needs}
-use Rattle.address.proofs.Ipv6Laws.{left-bad, right-bad, many-left, many-both, again-bad, gapped-kind}
+use Rattle.address.proofs.Ipv6Laws.{left-bad, right-bad, many-left, many-both, again-bad, gapped-read}
 use Rattle.address.proofs.ipv6.read_gapped.Statement.{statement}
 use Rattle.address.proofs.ipv6.read_gapped.Tie as tie
 
@@ -56,11 +56,11 @@ enum-told-3 c = search needs
 returns-5 : tie.Need-returns-5
 returns-5 c = search (again-bad, needs)
 
-kind-requires : tie.Need-kind-requires
-kind-requires c κs = search needs
+if-unicast-requires : tie.Need-if-unicast-requires
+if-unicast-requires c κs = search needs
 
 returns-6 : tie.Need-returns-6
-returns-6 c = search (gapped-kind, needs)
+returns-6 c = search (gapped-read, needs)
 
 pub read-gapped-spec : {M : Type 1} → statement M
 read-gapped-spec =
@@ -83,5 +83,5 @@ read-gapped-spec =
     enum-known-d
     enum-told-3
     returns-5
-    kind-requires
+    if-unicast-requires
     returns-6)

@@ -1,4 +1,4 @@
--- `write::push_each` meets its contract. The groups passed over are appended, and each turn appends one more after a colon.
+-- `write::push_each` meets its contract. The groups passed over are appended, and each step appends one more after a colon.
 -- Assumes nothing.
 use Prim.Native.Nat.{_-_}
 use mathlib.Core.Path.{_≡_}

@@ -1,4 +1,4 @@
--- `lines::connection_line` meets its contract: the line stands in its place, and has an address, or not.
+-- `lines::connection_line` meets its contract: the line is in its place and has an address, or not.
 -- Assumes nothing.
 use borrow.Author.Needs.{needs}
 use Rattle.description.proofs.lines.connection_line.Statement.{statement}

@@ -1,4 +1,4 @@
--- `lines::is_host` meets its contract: three tokens, two of them looked at.
+-- `lines::is_host` meets its contract: three tokens, two of them checked.
 -- Assumes nothing.
 use borrow.Author.Needs.{needs}
 use Rattle.description.proofs.lines.is_host.Statement.{statement}

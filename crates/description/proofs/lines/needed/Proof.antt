@@ -1,4 +1,4 @@
--- `lines::needed` meets its contract: the line stands in its place, and is right, or not.
+-- `lines::needed` meets its contract: the line is in its place and right, or not.
 -- Assumes nothing.
 use borrow.Author.Needs.{needs}
 use Rattle.description.proofs.lines.needed.Statement.{statement}

@@ -1,4 +1,4 @@
--- `lines::push_host` meets its contract: its texts stand one after the other.
+-- `lines::push_host` meets its contract: its texts come one after the other.
 -- Assumes nothing.
 use borrow.Author.Needs.{needs}
 use Rattle.ipbcp_write.proofs.lines.push_host.Statement.{statement}

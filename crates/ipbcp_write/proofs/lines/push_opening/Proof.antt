@@ -1,4 +1,4 @@
--- `lines::push_opening` meets its contract: its lines stand one after the other.
+-- `lines::push_opening` meets its contract: its lines come one after the other.
 -- Assumes nothing.
 use borrow.Author.Needs.{needs}
 use Rattle.ipbcp_write.proofs.lines.push_opening.Statement.{statement}

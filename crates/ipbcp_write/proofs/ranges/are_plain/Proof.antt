@@ -1,4 +1,4 @@
--- `ranges::are_plain` meets its contract: each text that there is is tested.
+-- `ranges::are_plain` meets its contract: every text is tested.
 -- Assumes nothing.
 use borrow.Author.Needs.{needs}
 use Rattle.ipbcp_write.proofs.ranges.are_plain.Statement.{statement}

@@ -1,4 +1,4 @@
--- `stream::push_attributes` meets its contract: its lines stand one after the other.
+-- `stream::push_attributes` meets its contract: its lines come one after the other.
 -- Assumes nothing.
 use borrow.Author.Needs.{needs}
 use Rattle.ipbcp_write.proofs.stream.push_attributes.Statement.{statement}

@@ -1,4 +1,4 @@
--- `stream::push_fmtp` meets its contract: its texts stand one after the other.
+-- `stream::push_fmtp` meets its contract: its texts come one after the other.
 -- Assumes nothing.
 use borrow.Author.Needs.{needs}
 use Rattle.ipbcp_write.proofs.stream.push_fmtp.Statement.{statement}
