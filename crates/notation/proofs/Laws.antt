@@ -16,16 +16,17 @@ use Rattle.octets.specs.Decimal.{isDigit, allDigits, valueFrom, shortest, numbe
 use Rattle.octets.specs.Hex.{hexText}
 use Rattle.octets.specs.Spans.{textOf}
 use Rattle.octets.specs.Words.{digitRun}
+use Rattle.octets.specs.Text.{ascii}
 use Rattle.octets.proofs.CaseLaws.{by-bool, by-le}
 use Rattle.octets.proofs.AppendLaws.{append-then}
 use Rattle.media.specs.declared.Texts.{Texts}
 use Rattle.media.specs.Meaning.{spansOf, textsBy}
-use Rattle.notation.specs.Notation.{octetsShown, textShown, textsAfter, textsShown, refusedShown, lengthIn}
+use Rattle.notation.specs.Notation.{octetsShown, textShown, textsAfter, textsShown, refusedShown, lengthIn, textAfter}
 use Rattle.notation.specs.Private.{largeIn}
 
 -- ---- octets and texts
 module _ (s l f : List ℕ) (at r : ℕ) where
-  pub octets-none : length s ≡ 0 → Appends l at (45 ∷ []) r f → Appends l at (octetsShown s) r f
+  pub octets-none : length s ≡ 0 → Appends l at (ascii "-") r f → Appends l at (octetsShown s) r f
   unfolding octetsShown
   octets-none h a = rw (eq-eqb (length s) 0 h) a
 
@@ -33,7 +34,7 @@ module _ (s l f : List ℕ) (at r : ℕ) where
   unfolding octetsShown
   octets-some h a = rw (ne-eqb (length s) 0 h) a
 
-  pub text-none : length s ≡ 0 → Appends l at (101 ∷ 109 ∷ 112 ∷ 116 ∷ 121 ∷ []) r f → Appends l at (textShown s) r f
+  pub text-none : length s ≡ 0 → Appends l at (ascii "empty") r f → Appends l at (textShown s) r f
   unfolding textShown
   text-none h a = rw (eq-eqb (length s) 0 h) a
 
@@ -49,13 +50,13 @@ span-shown t m l f sp at r e a = rw (← e) a
 
 -- a refusal
 pub refused-shown : (n at k r : ℕ) (l g f : List ℕ) → Appends g k (numberText n) r f
-    → Appends l at (114 ∷ 101 ∷ 102 ∷ 117 ∷ 115 ∷ 101 ∷ 100 ∷ 45 ∷ []) k g → Appends l at (refusedShown n) r f
+    → Appends l at (ascii "refused-") k g → Appends l at (refusedShown n) r f
 unfolding refusedShown
 refused-shown n at k r l g f q p = append-then l g f _ (numberText n) at k r q p
 
 -- ---- texts
 module _ (m l f : List ℕ) (x : Texts) (at r : ℕ) where
-  pub texts-none : x .count ≡ 0 → Appends l at (45 ∷ []) r f → Appends l at (textsShown (textsBy m x)) r f
+  pub texts-none : x .count ≡ 0 → Appends l at (ascii "-") r f → Appends l at (textsShown (textsBy m x)) r f
   unfolding textsShown textsBy spansOf
   texts-none h a = rw h a
 
@@ -63,18 +64,18 @@ module _ (m l f : List ℕ) (x : Texts) (at r : ℕ) where
   unfolding textsShown textsAfter textsBy spansOf
   texts-one h a = rw (h, append-nil) a
 
-  pub texts-two : (k : ℕ) (g : List ℕ) → x .count ≡ 2 → Appends g k (44 ∷ textShown (textOf m (x .second))) r f
+  pub texts-two : (k : ℕ) (g : List ℕ) → x .count ≡ 2 → Appends g k (textAfter (textOf m (x .second))) r f
       → Appends l at (textShown (textOf m (x .first))) k g → Appends l at (textsShown (textsBy m x)) r f
   unfolding textsShown textsAfter textsBy spansOf
-  texts-two k g h b a = rw (h, append-nil) (append-then l g f (textShown (textOf m (x .first))) (44 ∷ textShown (textOf m (x .second))) at k r b a)
+  texts-two k g h b a = rw (h, append-nil) (append-then l g f (textShown (textOf m (x .first))) (textAfter (textOf m (x .second))) at k r b a)
 
   pub texts-three : (k : ℕ) (g : List ℕ) → (x .count ≡ 0 → ⊥) → (x .count ≡ 1 → ⊥) → (x .count ≡ 2 → ⊥)
-      → Appends g k ((44 ∷ textShown (textOf m (x .second))) ++ (44 ∷ textShown (textOf m (x .third)))) r f
+      → Appends g k (textAfter (textOf m (x .second)) ++ textAfter (textOf m (x .third))) r f
       → Appends l at (textShown (textOf m (x .first))) k g → Appends l at (textsShown (textsBy m x)) r f
   unfolding textsShown textsAfter textsBy spansOf
   texts-three k g h₀ h₁ h₂ b a =
       let e : take (x .count) (x .first ∷ x .second ∷ x .third ∷ []) ≡ x .first ∷ x .second ∷ x .third ∷ [] = take-three (x .count) (omega arith) in
-      rw (e, append-nil) (append-then l g f (textShown (textOf m (x .first))) ((44 ∷ textShown (textOf m (x .second))) ++ (44 ∷ textShown (textOf m (x .third)))) at k r b a)
+      rw (e, append-nil) (append-then l g f (textShown (textOf m (x .first))) (textAfter (textOf m (x .second)) ++ textAfter (textOf m (x .third))) at k r b a)
     where
       take-three : {A : Type 0} {a b c : A} (n : ℕ) → 3 ≤ n → take n (a ∷ b ∷ c ∷ []) ≡ a ∷ b ∷ c ∷ []
       take-three zero h = absurd (omega arith)

@@ -24,7 +24,7 @@ append-none l j = rw take-nil (put-nil l j)
 abbrev pub restFits : List ℕ → ℕ → ℕ → Bool
 restFits t j n = isHex (drop (j + j) t) && leb (length (drop (j + j) t) / 2) (n - j)
 
--- j octets of t are in the buffer l, in which l₀ was; at most `most` of them fit
+-- j octets of t are in the buffer l, in which l₀ was; `most` octets fit
 module _ (t l₀ l : List ℕ) (j most : ℕ) (room : most ≡ min (length t / 2) (length l₀)) (same : length l ≡ length l₀)
     (ans : restFits t j (length l) ≡ (isHex t && leb (length t / 2) (length l₀)))
     (buf : appended l j (octetsBefore (drop (j + j) t)) ≡ appended l₀ 0 (octetsBefore t)) where

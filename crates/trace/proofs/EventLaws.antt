@@ -11,6 +11,7 @@ use native.Mathlib.Omega.{arith}
 use borrow.Rule.Slice.PartMut.{midOf, putMid}
 use borrow.Author.Tests.{lt-ltb, le-ltb}
 use Rattle.octets.specs.Append.{Appends}
+use Rattle.octets.specs.Text.{lf}
 use Rattle.octets.proofs.AppendLaws.{append-then}
 use Rattle.octets.proofs.AppendLaws as appending
 use Rattle.book.specs.declared.State.{State}
@@ -68,7 +69,7 @@ state-is e = state-by (e .state) (e .side) (requestBy (e .request)) (bearerBy (e
 force-is : (e : Endpoint) → forceBy e ≡ settled (bookOf e)
 force-is e = held-by (e .state) (e .side) (requestBy (e .request)) (bearerBy (e .bearer))
 
--- the word of an event says nothing of a message's octets
+-- the word of an event does not depend on a message's octets
 kind-same : (event : code.Event) (m : List ℕ) → kindWord (eventBy event m) ≡ kindWord (eventBy event [])
 unfolding kindWord
 kind-same (SetUp a b c) m = refl
@@ -103,7 +104,7 @@ pub more-no : (d : Bool) (s l : List ℕ) (at : ℕ) (force : Option Bearer) →
 more-no d s l at force h = rw h (appending.append-nil l at)
 
 -- ---- an event that was given
--- the first w octets, lent
+-- the first w octets are lent
 pub gave-front : (self : Endpoint) (e : Event) (w : ℕ) (room f : List ℕ) (r : Answer) → Did self e (midOf 0 (w - 0) room) f r → DidFront self e w room (putMid 0 (w - 0) room f) r
 gave-front self e w room f r h =
     let z : w - 0 ≡ w = omega arith in
@@ -137,7 +138,7 @@ module _ (self : Endpoint) (event : code.Event) (m room room′ out out′ : Lis
         inside = λ b. rw (g .config) b;
       }
 
-  -- as many octets are lent as are wanted, or all
+  -- as many octets are lent as are wanted, or all of them
   pub handled-is : (wanted : ℕ) → DidFront self (eventBy event m) w room room′ r → w ≡ min wanted (length room)
       → Appends out at (answerLine d n event (self .state) r room′) k out′
       → Does self (effectOn d self n (some (eventBy event m)) room wanted) room′ out out′ at
@@ -146,7 +147,7 @@ module _ (self : Endpoint) (event : code.Event) (m room room′ out out′ : Lis
 
 -- ---- a line that is no event
 pub passed-is : (self : Endpoint) (out g out′ : List ℕ) (n at k k₂ : ℕ) (d : Bool)
-    → Appends g k (detailIf d [] (forceBy self) ++ (10 ∷ [])) k₂ out′
+    → Appends g k (detailIf d [] (forceBy self) ++ (lf ∷ [])) k₂ out′
     → Appends out at (eventText n none (self .state) (Refused 13)) k g
     → Passes d self n out out′ at (record { session = record { phase = Running; number = n; endpoint = self }; at = k₂ })
 unfolding verdictEffect verdictOn traceIn replyOctets eventLine
@@ -158,7 +159,7 @@ passed-is self out g out′ n at k k₂ d b a room w =
       inside = λ b. b;
     }
 
--- ---- reading a line: f is the buffer that then has the octets of a message
+-- ---- reading a line: f is the buffer, which then has the octets of a message
 module _ (t l f : List ℕ) (u : Bool) (p : ReadsOctets t l u f) where
   pub message-is : u ≡ true → readyBy f (ready.Event Message (length t / 2)) ≡ messageBy t
   unfolding readyBy messageBy
@@ -191,7 +192,7 @@ module _ (s f : List ℕ) (whole : Bool) where
     unfolding readyBy askedBy
     line-nothing q = rw (asks reading.Nothing q)
 
-    -- its digits are few
+    -- its digits fit in the buffer
     pub line-fits : y ≡ reading.Digits → (t : List ℕ) → t ≡ drop 2 s → (n : ℕ) → mostLine / 2 ≤ n → length t / 2 ≤ n
     line-fits q t o n l =
         let k = e .short q in
@@ -232,9 +233,9 @@ module _ (self : Session) (line s f room out out′ : List ℕ) (n at : ℕ) (d 
 
 pub ruleset runs = (ran-event, ran-nothing)
 
--- the line of an event that has given its answer
+-- the line of an event whose answer is given
 pub answer-line : (event : code.Event) (state : State) (r : Answer) (room o out g out′ : List ℕ) (n at k k₂ w : ℕ) (d : Bool)
-    → Appends g k (detailIf d o (forceBy (r .endpoint)) ++ (10 ∷ [])) k₂ out′
+    → Appends g k (detailIf d o (forceBy (r .endpoint)) ++ (lf ∷ [])) k₂ out′
     → Appends out at (eventText n (some (eventBy event [])) state (r .reply)) k g
     → o ≡ take w room → w ≡ writtenBy (r .reply)
     → Appends out at (answerLine d n event state r room) k₂ out′

@@ -36,16 +36,16 @@ abbrev pub kept : Config → ℕ → Stepped
 kept c at = record { session = record { phase = Configuring; number = 0; endpoint = freshEndpoint c }; at = at }
 
 -- ---- lines of events
--- what line n does to an endpoint if e is its event and it asks for a buffer of w octets
+-- what line n does to an endpoint: e is its event, if it has one, and it asks for `wanted` octets of room
 abbrev pub effectOn : Bool → Endpoint → ℕ → Option Event → List ℕ → ℕ → Effect
-effectOn detailed self n e room w =
+effectOn detailed self n e room wanted =
     let c = configurationBy (self .config) in
-    let v = min w (length room) in
-    verdictEffect detailed c (bookOf self) n e room v (verdictOn c (bookOf self) e v)
+    let w = min wanted (length room) in
+    verdictEffect detailed c (bookOf self) n e room w (verdictOn c (bookOf self) e w)
 
 -- a line that is no event, whatever the buffer
 abbrev pub Passes : Bool → Endpoint → ℕ → List ℕ → List ℕ → ℕ → Stepped → Type 0
-Passes detailed self n out out′ at r = (room : List ℕ) (w : ℕ) → Does self (effectOn detailed self n none room w) room out out′ at r
+Passes detailed self n out out′ at r = (room : List ℕ) (wanted : ℕ) → Does self (effectOn detailed self n none room wanted) room out out′ at r
 
 -- how many octets a reply says were written
 unfoldable pub writtenBy : Reply → ℕ

@@ -19,7 +19,7 @@ use Rattle.endpoint.specs.Step.{replyFor, outFor}
 use Rattle.trace_read.specs.Words.{when}
 use Rattle.trace_read.specs.Events.{lineEvent}
 use Rattle.trace_read.specs.Configuring.{generalIn, isCodecLine, codecIn}
-use Rattle.trace_read.specs.Lending.{Lent, lentIn}
+use Rattle.trace_read.specs.Lending.{lentIn}
 use Rattle.trace_write.specs.Lines.{headerLine, refusedLine, eventText}
 use Rattle.trace_write.specs.Detail.{detailText}
 
@@ -69,14 +69,17 @@ eventLine detailed n e s r o force = eventText n e s r ++ (detailIf detailed o f
 
 -- what the verdict v on event n does to the book k; the event gets the first w octets of room
 unfoldable pub verdictEffect : Bool → Configuration → Book → ℕ → Option Event → List ℕ → ℕ → Verdict → Effect
-verdictEffect detailed c k n e room w v = record {
-  printed = eventLine detailed n e (stateOf k) (replyFor (replied k v)) (replyOctets (replied k v)) (settled (moved k v));
-  next = running c (moved k v) n;
-  lent = outFor (replied k v) (take w room) ++ drop w room;
-}
+verdictEffect detailed c k n e room w v =
+    let reply = replied k v in
+    let left = moved k v in
+    record {
+      printed = eventLine detailed n e (stateOf k) (replyFor reply) (replyOctets reply) (settled left);
+      next = running c left n;
+      lent = outFor reply (take w room) ++ drop w room;
+    }
 
 -- ---- a line once events come
--- the number after n; numbers saturate at 2^64 - 1
+-- the number after n; line numbers saturate at 2^64 - 1
 unfoldable pub nextNumber : ℕ → ℕ
 nextNumber n = cond (ltb n (2 ^ 64 - 1)) (n + 1) n
 

@@ -22,7 +22,7 @@ use trace_read::configure::read_general;
 use trace_write::lines::push_header;
 use trace_write::lines::push_refused_line;
 
-// An endpoint with this configuration, to which nothing has happened. The answer of `Endpoint::new` is not looked at: each line has been
+// An endpoint with this configuration, to which nothing has happened. The check of `Endpoint::new` is not used: each line has been
 // checked when it came.
 fn fresh(config: Config) -> Endpoint
     ensures { λ r. ⌜ r ≡ freshEndpoint config ⌝ }
@@ -151,7 +151,7 @@ impl Session {
         self.refuse(out, at)
     }
 
-    // The end of a configuration that no event follows.
+    // Appends what is printed for a configuration that no event follows.
     pub(crate) fn close(self, out: &mut [u8], at: usize) -> usize
         ensures { λ r. ⌜ Appends (now (out .entry)) at (ending (traceIn Phase.Configuring self)) r (now (out .exit)) ⌝ }
     {

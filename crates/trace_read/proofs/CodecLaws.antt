@@ -1,4 +1,4 @@
--- Laws of what a `K` line adds: a payload or a name in the front of its array, and an entry after those that a configuration has.
+-- Laws of what a `K` line adds: a payload or a name at the front of its array, and an entry after those that a configuration has.
 -- Assumes nothing.
 use Prim.Native.Nat.{ℕ, _+_, _≤_, _<_}
 use mathlib.Core.Path.{_≡_, refl, sym, _∙_}
@@ -15,6 +15,7 @@ use Rattle.octets.specs.declared.Number.{Number}
 use Rattle.octets.specs.declared.Number.the-variants.{Value, Bad}
 use Rattle.octets.specs.Append.{put, Appends}
 use Rattle.octets.specs.Decimal.{allDigits, shortest, readNumber, onNumber}
+use Rattle.octets.specs.Text.{tab}
 use Rattle.octets.specs.Split.{splitOn, partAt, separatorsOf}
 use Rattle.octets.specs.Words.{digitRun}
 use Rattle.octets.proofs.AppendLaws.{append-room}
@@ -94,7 +95,7 @@ module _ (t : List ℕ) (r : FoundCodec) (u : Bool) (e : u ≡ digitRun t) where
 pub ruleset eithers = (codec-payload, codec-name)
 
 -- the codec in a field
-pub codec-field : (p s : List ℕ) (r : FoundCodec) → p ≡ partAt 1 (splitOn 9 s) → Finds (codecOf p) r → Finds (codecOf (partAt 1 (splitOn 9 s))) r
+pub codec-field : (p s : List ℕ) (r : FoundCodec) → p ≡ partAt 1 (splitOn tab s) → Finds (codecOf p) r → Finds (codecOf (partAt 1 (splitOn tab s))) r
 codec-field p s r e f = rw (← e) f
 
 -- ---- one entry more
@@ -142,27 +143,27 @@ module _ (c : Config) {X : Type 0} (g : Place → X) (w : length (map g (c .code
 pub ruleset adds = (added-full, added-is)
 
 -- ---- the line
-module _ (c : Config) (s : List ℕ) (r : Configured) (n : ℕ) (q : n ≡ separatorsOf 9 s) where
-  pub line-fields : (n ≡ 1 → ⊥) → Fails r → Configures (configInside c) (codecFor (configurationBy c) (splitOn 9 s)) r
+module _ (c : Config) (s : List ℕ) (r : Configured) (n : ℕ) (q : n ≡ separatorsOf tab s) where
+  pub line-fields : (n ≡ 1 → ⊥) → Fails r → Configures (configInside c) (codecFor (configurationBy c) (splitOn tab s)) r
   unfolding codecFor
-  line-fields k f = let l = fields-are s n q in failed (configInside c) _ r f (λ h. rw (ne-eqb (length (splitOn 9 s)) 2 (λ e. k (omega arith))) h)
+  line-fields k f = let l = fields-are s n q in failed (configInside c) _ r f (λ h. rw (ne-eqb (length (splitOn tab s)) 2 (λ e. k (omega arith))) h)
 
-  module _ (x : FoundCodec) (e : Finds (codecOf (partAt 1 (splitOn 9 s))) x) where
-    known-is : (b : Bool) → x .known ≡ b → cond b (some (codecBy (x .codec))) none ≡ codecOf (partAt 1 (splitOn 9 s))
+  module _ (x : FoundCodec) (e : Finds (codecOf (partAt 1 (splitOn tab s))) x) where
+    known-is : (b : Bool) → x .known ≡ b → cond b (some (codecBy (x .codec))) none ≡ codecOf (partAt 1 (splitOn tab s))
     known-is b h = let i = e .is in rw h at i
 
     pub line-codec : n ≡ 1 → x .known ≡ true → Configures (configInside c && formatInside (x .codec .format)) (addedTo (configurationBy c) (codecBy (x .codec))) r
-        → Configures (configInside c) (codecFor (configurationBy c) (splitOn 9 s)) r
+        → Configures (configInside c) (codecFor (configurationBy c) (splitOn tab s)) r
     unfolding codecFor Option·elim
     line-codec i j f =
         let l = fields-are s n q in
         record {
-          is = rw (eq-eqb (length (splitOn 9 s)) 2 (omega arith), ← known-is true j) (f .is);
+          is = rw (eq-eqb (length (splitOn tab s)) 2 (omega arith), ← known-is true j) (f .is);
           inside = λ b. f .inside (rw (b, e .inside j));
         }
 
-    pub line-none : n ≡ 1 → x .known ≡ false → Fails r → Configures (configInside c) (codecFor (configurationBy c) (splitOn 9 s)) r
+    pub line-none : n ≡ 1 → x .known ≡ false → Fails r → Configures (configInside c) (codecFor (configurationBy c) (splitOn tab s)) r
     unfolding codecFor Option·elim
-    line-none i j f = let l = fields-are s n q in failed (configInside c) _ r f (λ h. rw (eq-eqb (length (splitOn 9 s)) 2 (omega arith), ← known-is false j) h)
+    line-none i j f = let l = fields-are s n q in failed (configInside c) _ r f (λ h. rw (eq-eqb (length (splitOn tab s)) 2 (omega arith), ← known-is false j) h)
 
 pub ruleset codecLines = (line-fields, line-codec, line-none)

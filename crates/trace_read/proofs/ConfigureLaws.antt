@@ -2,7 +2,7 @@
 -- Assumes nothing.
 use Prim.Native.Nat.{ℕ, _≤_, _<_}
 use mathlib.Core.Path.{_≡_, refl, _∙_}
-use mathlib.Core.List.{List, [], _∷_}
+use mathlib.Core.List.{List}
 use mathlib.Core.Bool.{Bool, true, false, cond, and-false}
 use mathlib.Core.Option.{Option, none}
 use lib.ListN.{length}
@@ -12,6 +12,8 @@ use borrow.Author.Tests.{le-leb, lt-leb, eq-eqb, ne-eqb}
 use Rattle.octets.specs.declared.Number.{Number}
 use Rattle.octets.specs.declared.Number.the-variants.{Value, Bad}
 use Rattle.octets.specs.Decimal.{readNumber, onNumber}
+use Rattle.octets.specs.Text.{tab}
+use Rattle.trace_read.specs.Words.{generalWord}
 use Rattle.octets.specs.Split.{splitOn, partAt, separatorsOf}
 use Rattle.octets.specs.Words.{same}
 use Rattle.octets.proofs.CaseLaws.{by-le}
@@ -39,7 +41,7 @@ pub wrong-is : (c : Config) → configInside c ≡ true → Fails (record { righ
 unfolding configuredBy
 wrong-is c i = record { is = refl; inside = i }
 
--- a configuration with no codecs has no length to look at
+-- a configuration with no codecs has no length that could go past an array
 pub none-inside : (own : Address) (port least most t1 t2 : ℕ) (ks : List Place)
     → configInside (record { own = own; port = port; least = least; most = most; t1 = t1; t2 = t2; count = 0; codecs = ks }) ≡ true
 unfolding configInside allFormatsInside
@@ -69,7 +71,7 @@ module _ (t : List ℕ) (x : Number) (e : x ≡ readNumber t) where
 
 pub ruleset smalls = (small-bad, small-large, small-value)
 
--- by cases on a `Small` z that the code has as y
+-- by cases on the `Small` z, which the code has as y
 pub on-small : {X : Type 0} (y z : Small) (n : ℕ) (go : ℕ → X) (bad x : X) → y ≡ z → y ≡ small.Value n → x ≡ go n → x ≡ onSmall z go bad
 unfolding onSmall
 on-small y z n go bad x p q r = rw (← p, q) r
@@ -204,17 +206,17 @@ pub ruleset addressing = (fields-host, fields-port, fields-times)
 
 -- ---- the line
 module _ (s : List ℕ) (r : Configured) where
-  pub general-few : (n : ℕ) → n ≡ separatorsOf 9 s → (n ≡ 6 → ⊥) → Fails r → Configures true (generalOf (splitOn 9 s)) r
+  pub general-few : (n : ℕ) → n ≡ separatorsOf tab s → (n ≡ 6 → ⊥) → Fails r → Configures true (generalOf (splitOn tab s)) r
   unfolding generalOf
-  general-few n c k f = let l = fields-are s n c in failed true _ r f (λ h. rw (ne-eqb (length (splitOn 9 s)) 7 (λ e. k (omega arith))) h)
+  general-few n c k f = let l = fields-are s n c in failed true _ r f (λ h. rw (ne-eqb (length (splitOn tab s)) 7 (λ e. k (omega arith))) h)
 
-  module _ (p : List ℕ) (t : Bool) (e : p ≡ partAt 0 (splitOn 9 s)) (g : t ≡ same (71 ∷ []) p) where
-    pub general-other : t ≡ false → Fails r → Configures true (generalOf (splitOn 9 s)) r
+  module _ (p : List ℕ) (t : Bool) (e : p ≡ partAt 0 (splitOn tab s)) (g : t ≡ same generalWord p) where
+    pub general-other : t ≡ false → Fails r → Configures true (generalOf (splitOn tab s)) r
     unfolding generalOf
-    general-other q f = failed true _ r f (λ h. rw (← e, ← g, q, and-false (eqb (length (splitOn 9 s)) 7)) h)
+    general-other q f = failed true _ r f (λ h. rw (← e, ← g, q, and-false (eqb (length (splitOn tab s)) 7)) h)
 
-    pub general-line : (n : ℕ) → n ≡ separatorsOf 9 s → n ≡ 6 → t ≡ true → Configures true (generalFields (splitOn 9 s)) r → Configures true (generalOf (splitOn 9 s)) r
+    pub general-line : (n : ℕ) → n ≡ separatorsOf tab s → n ≡ 6 → t ≡ true → Configures true (generalFields (splitOn tab s)) r → Configures true (generalOf (splitOn tab s)) r
     unfolding generalOf
-    general-line n c k q f = let l = fields-are s n c in same-configured true _ _ r f (λ h. rw (← e, ← g, q, eq-eqb (length (splitOn 9 s)) 7 (omega arith)) h)
+    general-line n c k q f = let l = fields-are s n c in same-configured true _ _ r f (λ h. rw (← e, ← g, q, eq-eqb (length (splitOn tab s)) 7 (omega arith)) h)
 
 pub ruleset generals = (general-few, general-other, general-line)

@@ -1,4 +1,4 @@
--- Laws of the event that a line names: the first field and how many there are decide, and a message's digits hold no tab.
+-- Laws of the event that a line names: the first field and how many there are decide, and no digit of a message is a tab.
 -- Assumes nothing.
 use Prim.Native.Nat.{ℕ, _%_, _≤_, _<_}
 use mathlib.Core.Path.{_≡_, refl, sym, _∙_}
@@ -13,6 +13,7 @@ use Rattle.octets.specs.declared.Number.{Number}
 use Rattle.octets.specs.declared.Number.the-variants.{Value, Bad}
 use Rattle.octets.specs.Decimal.{readNumber, onNumber}
 use Rattle.octets.specs.Hex.{isHexDigit, allHex, isHex}
+use Rattle.octets.specs.Text.{char, tab}
 use Rattle.octets.specs.Split.{has, before, onFirst, splitOn, partAt, separatorsOf}
 use Rattle.octets.specs.Words.{begins, same}
 use Rattle.octets.proofs.CaseLaws.{by-eq, by-bool}
@@ -26,10 +27,10 @@ use Rattle.trace_read.specs.declared.events.ThreeNumbers.the-variants.{N
 use Rattle.trace_read.specs.Events.{bareOf, messageOf, commandNumbers, commandOf, fieldsEvent, lineEvent, messageBy}
 use Rattle.trace_read.specs.Meaning.{askedBy, Asks}
 use Rattle.trace_read.specs.Private.{threeNumbers}
-use Rattle.trace_read.specs.Words.{mostLine}
+use Rattle.trace_read.specs.Words.{mostLine, setUpWord, changeWord, releaseWord, t1Word, t2Word, messageWord}
 use Rattle.trace_read.proofs.FieldLaws.{fields-are}
 
--- no test is both
+-- true is not false
 never : {X : Type 0} → true ≡ false → X
 never e = let z : _≡_ {A = ℕ} 0 1 = cc in absurd (omega arith)
 
@@ -72,12 +73,12 @@ pub ruleset commands = (set-up-is, set-up-isnt, change-is, change-isnt)
 
 -- ---- the word, which is p
 module _ (m p : List ℕ) (ps : List (List ℕ)) (e : p ≡ partAt 0 ps) where
-  module _ (t : Bool) (r : t ≡ same (85 ∷ []) p) where
+  module _ (t : Bool) (r : t ≡ same setUpWord p) where
     pub command-set-up : (x : Asked) → t ≡ true → askedBy m x ≡ commandNumbers setUp ps → askedBy m x ≡ commandOf ps
     unfolding commandOf
     command-set-up x q h = rw (← e, ← r, q) h
 
-    module _ (u : Bool) (k : u ≡ same (67 ∷ []) p) (q : t ≡ false) where
+    module _ (u : Bool) (k : u ≡ same changeWord p) (q : t ≡ false) where
       pub command-change : (x : Asked) → u ≡ true → askedBy m x ≡ commandNumbers change ps → askedBy m x ≡ commandOf ps
       unfolding commandOf
       command-change x v h = rw (← e, ← r, q, ← k, v) h
@@ -86,17 +87,17 @@ module _ (m p : List ℕ) (ps : List (List ℕ)) (e : p ≡ partAt 0 ps) where
       unfolding commandOf askedBy
       command-none v = rw (← e, ← r, q, ← k, v)
 
-  module _ (t : Bool) (r : t ≡ same (88 ∷ []) p) where
+  module _ (t : Bool) (r : t ≡ same releaseWord p) where
     pub bare-release : t ≡ true → askedBy m (Named Release) ≡ bareOf ps
     unfolding bareOf askedBy
     bare-release q = rw (← e, ← r, q)
 
-    module _ (u : Bool) (k : u ≡ same (84 ∷ 49 ∷ []) p) (q : t ≡ false) where
+    module _ (u : Bool) (k : u ≡ same t1Word p) (q : t ≡ false) where
       pub bare-t1 : u ≡ true → askedBy m (Named T1) ≡ bareOf ps
       unfolding bareOf askedBy
       bare-t1 v = rw (← e, ← r, q, ← k, v)
 
-      module _ (w : Bool) (l : w ≡ same (84 ∷ 50 ∷ []) p) (v : u ≡ false) where
+      module _ (w : Bool) (l : w ≡ same t2Word p) (v : u ≡ false) where
         pub bare-t2 : w ≡ true → askedBy m (Named T2) ≡ bareOf ps
         unfolding bareOf askedBy
         bare-t2 o = rw (← e, ← r, q, ← k, v, ← l, o)
@@ -107,28 +108,28 @@ module _ (m p : List ℕ) (ps : List (List ℕ)) (e : p ≡ partAt 0 ps) where
 
 pub ruleset words = (command-set-up, command-change, command-none, bare-release, bare-t1, bare-t2, bare-none)
 
--- ---- a line that begins with the word of messages and a tab
-message-fields : (s : List ℕ) → begins (77 ∷ 9 ∷ []) s ≡ true → splitOn 9 s ≡ (77 ∷ []) ∷ splitOn 9 (drop 2 s)
+-- ---- a line that begins with `M` and a tab
+message-fields : (s : List ℕ) → begins (char "M" ∷ tab ∷ []) s ≡ true → splitOn tab s ≡ messageWord ∷ splitOn tab (drop 2 s)
 unfolding begins splitOn onFirst
 message-fields [] h = never (sym h)
-message-fields (a ∷ []) h = never (sym (and-eq-true-iff (eqb a 77) false .0 h .1))
+message-fields (a ∷ []) h = never (sym (and-eq-true-iff (eqb a (char "M")) false .0 h .1))
 message-fields (a ∷ b ∷ s) h =
-    let (p, q) = and-eq-true-iff (eqb a 77) (eqb b 9 && true) .0 h in
-    let x : a ≡ 77 = eqb-true a 77 p in
-    let y : b ≡ 9 = eqb-true b 9 (and-eq-true-iff (eqb b 9) true .0 q .0) in
+    let (p, q) = and-eq-true-iff (eqb a (char "M")) (eqb b tab && true) .0 h in
+    let x : a ≡ char "M" = eqb-true a (char "M") p in
+    let y : b ≡ tab = eqb-true b tab (and-eq-true-iff (eqb b tab) true .0 q .0) in
     rw (x, y)
 
--- digits hold no tab
-hex-whole : (t : List ℕ) → allHex t ≡ true → splitOn 9 t ≡ t ∷ []
+-- digits are not tabs
+hex-whole : (t : List ℕ) → allHex t ≡ true → splitOn tab t ≡ t ∷ []
 unfolding allHex isHexDigit splitOn onFirst
 hex-whole [] h = refl
 hex-whole (b ∷ bs) h =
     let (p, q) = and-eq-true-iff (isHexDigit b) (allHex bs) .0 h in
-    by-eq b 9 _
-    (λ e. let z : isHexDigit 9 ≡ true = rw e at p in never (sym z))
-    (λ e. rw (ne-eqb b 9 e, hex-whole bs q))
+    by-eq b tab _
+    (λ e. let z : isHexDigit tab ≡ true = rw e at p in never (sym z))
+    (λ e. rw (ne-eqb b tab e, hex-whole bs q))
 
-message-one : (t : List ℕ) → fieldsEvent ((77 ∷ []) ∷ t ∷ []) ≡ messageBy t
+message-one : (t : List ℕ) → fieldsEvent (messageWord ∷ t ∷ []) ≡ messageBy t
 unfolding fieldsEvent messageOf same begins partAt
 message-one t = refl
 
@@ -142,72 +143,72 @@ unfolding fieldsEvent
 event-many ps h =
     rw (ne-eqb (length ps) 1 (λ e. omega arith), ne-eqb (length ps) 2 (λ e. omega arith), ne-eqb (length ps) 4 (λ e. omega arith))
 
--- three fields or more, the word that of messages
-message-many : (t : List ℕ) (ps : List (List ℕ)) → 0 < length ps → fieldsEvent ((77 ∷ []) ∷ t ∷ ps) ≡ none
+-- three fields or more, of which the first is `M`
+message-many : (t : List ℕ) (ps : List (List ℕ)) → 0 < length ps → fieldsEvent (messageWord ∷ t ∷ ps) ≡ none
 unfolding fieldsEvent commandOf same begins partAt
 message-many t [] h = absurd (omega arith)
 message-many t (a ∷ []) h = refl
 message-many t (a ∷ b ∷ []) h = refl
-message-many t (a ∷ b ∷ c ∷ ps) h = event-many ((77 ∷ []) ∷ t ∷ a ∷ b ∷ c ∷ ps) (omega arith)
+message-many t (a ∷ b ∷ c ∷ ps) h = event-many (messageWord ∷ t ∷ a ∷ b ∷ c ∷ ps) (omega arith)
 
-module _ (s : List ℕ) (b : begins (77 ∷ 9 ∷ []) s ≡ true) where
-  message-yes : isHex (drop 2 s) ≡ true → messageBy (drop 2 s) ≡ fieldsEvent (splitOn 9 s)
+module _ (s : List ℕ) (b : begins (char "M" ∷ tab ∷ []) s ≡ true) where
+  message-yes : isHex (drop 2 s) ≡ true → messageBy (drop 2 s) ≡ fieldsEvent (splitOn tab s)
   unfolding isHex
   message-yes h =
       let p = drop 2 s in
       let a : allHex p ≡ true = and-eq-true-iff (eqb (length p % 2) 0) (allHex p) .0 h .1 in
       rw (message-fields s b, hex-whole p a) (sym (message-one p))
 
-  message-no : isHex (drop 2 s) ≡ false → messageBy (drop 2 s) ≡ fieldsEvent (splitOn 9 s)
+  message-no : isHex (drop 2 s) ≡ false → messageBy (drop 2 s) ≡ fieldsEvent (splitOn tab s)
   message-no h =
       let p = drop 2 s in
       rw (message-fields s b)
-      (by-bool (has 9 p) _
-      (λ k. let l = has-before 9 p k in rw (message-none p h, split-dot 9 p l) (sym (message-many (before 9 p) _ (split-some 9 _))))
-      (λ k. rw (split-whole 9 p k) (sym (message-one p))))
+      (by-bool (has tab p) _
+      (λ k. let l = has-before tab p k in rw (message-none p h, split-dot tab p l) (sym (message-many (before tab p) _ (split-some tab _))))
+      (λ k. rw (split-whole tab p k) (sym (message-one p))))
 
-  message-is : messageBy (drop 2 s) ≡ fieldsEvent (splitOn 9 s)
+  message-is : messageBy (drop 2 s) ≡ fieldsEvent (splitOn tab s)
   message-is = by-bool (isHex (drop 2 s)) _ message-yes message-no
 
 -- ---- any other line
 -- with two fields the first is another word
-other-word : (s : List ℕ) → begins (77 ∷ 9 ∷ []) s ≡ false → length (splitOn 9 s) ≡ 2 → same (77 ∷ []) (partAt 0 (splitOn 9 s)) ≡ false
+other-word : (s : List ℕ) → begins (char "M" ∷ tab ∷ []) s ≡ false → length (splitOn tab s) ≡ 2 → same messageWord (partAt 0 (splitOn tab s)) ≡ false
 unfolding begins same partAt splitOn onFirst
 other-word [] b h = absurd (omega arith)
-other-word (x ∷ []) b h = by-eq x 9 _ (λ e. rw (eq-eqb x 9 e)) (λ e. let z : 1 ≡ 2 = rw (ne-eqb x 9 e) at h in absurd (omega arith))
+other-word (x ∷ []) b h = by-eq x tab _ (λ e. rw (eq-eqb x tab e)) (λ e. let z : 1 ≡ 2 = rw (ne-eqb x tab e) at h in absurd (omega arith))
 other-word (x ∷ y ∷ s) b h =
-    by-eq x 9 _
-    (λ e. rw (eq-eqb x 9 e))
-    (λ e. by-eq y 9 _
-    (λ f. by-eq x 77 _
+    by-eq x tab _
+    (λ e. rw (eq-eqb x tab e))
+    (λ e. by-eq y tab _
+    (λ f. by-eq x (char "M") _
     (λ g. let z : true ≡ false = rw (g, f) at b in never z)
-    (λ g. rw (ne-eqb x 9 e, eq-eqb y 9 f, ne-eqb x 77 g)))
-    (λ f. rw (ne-eqb x 9 e, ne-eqb y 9 f) (long-word x y (splitOn 9 s))))
+    (λ g. rw (ne-eqb x tab e, eq-eqb y tab f, ne-eqb x (char "M") g)))
+    (λ f. rw (ne-eqb x tab e, ne-eqb y tab f) (long-word x y (splitOn tab s))))
   where
-    long-word : (x y : ℕ) (ps : List (List ℕ)) → same (77 ∷ []) (partAt 0 (onFirst x (onFirst y ps))) ≡ false
+    long-word : (x y : ℕ) (ps : List (List ℕ)) → same messageWord (partAt 0 (onFirst x (onFirst y ps))) ≡ false
     long-word x y [] = refl
     long-word x y (p ∷ ps) = rw (ne-eqb (length (x ∷ y ∷ p)) 1 (λ e. omega arith))
 
-module _ (s : List ℕ) (n : ℕ) (c : n ≡ separatorsOf 9 s) where
+module _ (s : List ℕ) (n : ℕ) (c : n ≡ separatorsOf tab s) where
   module _ (m : List ℕ) where
-    pub other-bare : (x : Asked) → n ≡ 0 → askedBy m x ≡ bareOf (splitOn 9 s) → askedBy m x ≡ fieldsEvent (splitOn 9 s)
+    pub other-bare : (x : Asked) → n ≡ 0 → askedBy m x ≡ bareOf (splitOn tab s) → askedBy m x ≡ fieldsEvent (splitOn tab s)
     unfolding fieldsEvent
-    other-bare x h r = rw (eq-eqb (length (splitOn 9 s)) 1 (omega (arith, fields-are s n c))) r
+    other-bare x h r = rw (eq-eqb (length (splitOn tab s)) 1 (omega (arith, fields-are s n c))) r
 
-    pub other-command : (x : Asked) → n ≡ 3 → askedBy m x ≡ commandOf (splitOn 9 s) → askedBy m x ≡ fieldsEvent (splitOn 9 s)
+    pub other-command : (x : Asked) → n ≡ 3 → askedBy m x ≡ commandOf (splitOn tab s) → askedBy m x ≡ fieldsEvent (splitOn tab s)
     unfolding fieldsEvent
     other-command x h r =
         let l = fields-are s n c in
-        rw (ne-eqb (length (splitOn 9 s)) 1 (λ e. omega arith), ne-eqb (length (splitOn 9 s)) 2 (λ e. omega arith), eq-eqb (length (splitOn 9 s)) 4 (omega arith)) r
+        rw (ne-eqb (length (splitOn tab s)) 1 (λ e. omega arith), ne-eqb (length (splitOn tab s)) 2 (λ e. omega arith), eq-eqb (length (splitOn tab s)) 4 (omega arith)) r
 
-    pub other-none : begins (77 ∷ 9 ∷ []) s ≡ false → (n ≡ 0 → ⊥) → (n ≡ 3 → ⊥) → askedBy m Nothing ≡ fieldsEvent (splitOn 9 s)
+    pub other-none : begins (char "M" ∷ tab ∷ []) s ≡ false → (n ≡ 0 → ⊥) → (n ≡ 3 → ⊥) → askedBy m Nothing ≡ fieldsEvent (splitOn tab s)
     unfolding fieldsEvent messageOf askedBy
     other-none b h k =
         let l = fields-are s n c in
-        rw (ne-eqb (length (splitOn 9 s)) 1 (λ e. h (omega arith)), ne-eqb (length (splitOn 9 s)) 4 (λ e. k (omega arith)))
-        (by-eq (length (splitOn 9 s)) 2 _
-        (λ e. rw (eq-eqb (length (splitOn 9 s)) 2 e, other-word s b e))
-        (λ e. rw (ne-eqb (length (splitOn 9 s)) 2 e)))
+        rw (ne-eqb (length (splitOn tab s)) 1 (λ e. h (omega arith)), ne-eqb (length (splitOn tab s)) 4 (λ e. k (omega arith)))
+        (by-eq (length (splitOn tab s)) 2 _
+        (λ e. rw (eq-eqb (length (splitOn tab s)) 2 e, other-word s b e))
+        (λ e. rw (ne-eqb (length (splitOn tab s)) 2 e)))
 
 pub ruleset others = (other-bare, other-command, other-none)
 
@@ -217,11 +218,11 @@ module _ (s : List ℕ) where
   unfolding lineEvent askedBy
   event-long h = record { is = rw (le-ltb (length s) mostLine h); short = λ e. (let z : _≡_ {A = ℕ} 0 1 = cc in absurd (omega arith)) }
 
-  pub event-is : (x : Asked) → length s < mostLine → askedBy s x ≡ fieldsEvent (splitOn 9 s) → Asks s x
+  pub event-is : (x : Asked) → length s < mostLine → askedBy s x ≡ fieldsEvent (splitOn tab s) → Asks s x
   unfolding lineEvent
   event-is x h r = record { is = rw (lt-ltb (length s) mostLine h) r; short = λ e. h }
 
-  pub event-digits : (t : Bool) → t ≡ begins (77 ∷ 9 ∷ []) s → t ≡ true → length s < mostLine → Asks s Digits
+  pub event-digits : (t : Bool) → t ≡ begins (char "M" ∷ tab ∷ []) s → t ≡ true → length s < mostLine → Asks s Digits
   unfolding lineEvent askedBy
   event-digits t e q h = record { is = rw (lt-ltb (length s) mostLine h) (message-is s (sym e ∙ q)); short = λ e. h }
 

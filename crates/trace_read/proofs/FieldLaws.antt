@@ -9,6 +9,7 @@ use lib.ListN.{length}
 use native.Mathlib.Omega.{arith}
 use Rattle.octets.specs.declared.Number.{Number}
 use Rattle.octets.specs.Decimal.{readNumber}
+use Rattle.octets.specs.Text.{tab}
 use Rattle.octets.specs.Split.{splitOn, separatorsOf}
 use Rattle.octets.specs.Words.{same}
 use Rattle.octets.proofs.SplitLaws.{split-some}
@@ -33,6 +34,6 @@ module _ (p q : List ℕ) (e : p ≡ q) where
 pub ruleset onFields = (number-of, host-of, codec-of, word-of)
 
 -- ---- one field more than there are tabs
-pub fields-are : (s : List ℕ) (n : ℕ) → n ≡ separatorsOf 9 s → length (splitOn 9 s) ≡ n + 1
+pub fields-are : (s : List ℕ) (n : ℕ) → n ≡ separatorsOf tab s → length (splitOn tab s) ≡ n + 1
 unfolding separatorsOf
-fields-are s n e = omega (arith, split-some 9 s)
+fields-are s n e = omega (arith, split-some tab s)

@@ -2,7 +2,7 @@
 -- Assumes nothing.
 use Prim.Native.Nat.{ℕ, _+_, _-_, _≤_, _<_}
 use mathlib.Core.Path.{_≡_, refl, sym, ap, _∙_}
-use mathlib.Core.List.{List, [], _∷_}
+use mathlib.Core.List.{List}
 use mathlib.Core.Bool.{Bool, true, false, not}
 use mathlib.Core.Option.{Option·elim}
 use lib.ListN.{length, take, drop, length-drop}
@@ -12,13 +12,14 @@ use borrow.Author.Tests.{not-true, not-false}
 use Rattle.octets.specs.declared.Number.{Number}
 use Rattle.octets.specs.declared.Number.the-variants.{Value, Bad}
 use Rattle.octets.specs.Decimal.{onNumber}
+use Rattle.octets.specs.Text.{tab}
 use Rattle.octets.specs.Split.{has, before, findAt, Found}
 use Rattle.octets.specs.Words.{begins}
 use Rattle.octets.proofs.CaseLaws.{by-bool}
 use Rattle.octets.proofs.SplitLaws.{part-is, has-before, has-not}
 use Rattle.notation.specs.Notation.{lengthIn}
 use Rattle.trace_read.specs.declared.Lent.{Lent as Place}
-use Rattle.trace_read.specs.Lending.{usual, lentAfter, orUsual, lentIn, usualRoom}
+use Rattle.trace_read.specs.Lending.{usual, lentAfter, orUsual, lentIn, usualRoom, lendWord}
 use Rattle.trace_read.specs.Meaning.{lentBy}
 
 pub usual-is : (s : List ℕ) → lentBy s (record { room = usualRoom; at = 0 }) ≡ usual s
@@ -26,28 +27,28 @@ unfolding lentBy usual
 usual-is s = refl
 
 -- ---- after the word and its tab; e is the next tab, or the end
-module _ (s : List ℕ) (e : ℕ) (f : Found s 9 2 e) where
-  tab-none : length s ≤ e → has 9 (drop 2 s) ≡ false
+module _ (s : List ℕ) (e : ℕ) (f : Found s tab 2 e) where
+  tab-none : length s ≤ e → has tab (drop 2 s) ≡ false
   unfolding findAt
   tab-none h =
-      by-bool (has 9 (drop 2 s)) _
-      (λ k. let i : e ≡ 2 + length (before 9 (drop 2 s)) = f .is in absurd (omega (arith, i, has-before 9 (drop 2 s) k, length-drop 2 s)))
+      by-bool (has tab (drop 2 s)) _
+      (λ k. let i : e ≡ 2 + length (before tab (drop 2 s)) = f .is in absurd (omega (arith, i, has-before tab (drop 2 s) k, length-drop 2 s)))
       (λ k. k)
 
-  tab-some : e < length s → has 9 (drop 2 s) ≡ true
+  tab-some : e < length s → has tab (drop 2 s) ≡ true
   unfolding findAt
   tab-some h =
-      by-bool (has 9 (drop 2 s)) _
+      by-bool (has tab (drop 2 s)) _
       (λ k. k)
-      (λ k. let i : e ≡ 2 + length (before 9 (drop 2 s)) = f .is in absurd (omega (arith, i, ap (λ (z : List ℕ). length z) (has-not 9 (drop 2 s) k), length-drop 2 s)))
+      (λ k. let i : e ≡ 2 + length (before tab (drop 2 s)) = f .is in absurd (omega (arith, i, ap (λ (z : List ℕ). length z) (has-not tab (drop 2 s) k), length-drop 2 s)))
 
   pub lend-open : (r : Place) → length s ≤ e → lentBy s r ≡ usual s → lentBy s r ≡ orUsual s (lentAfter (drop 2 s))
   unfolding lentAfter Option·elim
   lend-open r h u = rw (tab-none h) u
 
   module _ (h : e < length s) (x : Number) (k : x ≡ lengthIn (take (e - 2) (drop 2 s))) where
-    length-is : lengthIn (before 9 (drop 2 s)) ≡ x
-    length-is = ap lengthIn (sym (part-is s 9 2 e (f .is))) ∙ sym k
+    length-is : lengthIn (before tab (drop 2 s)) ≡ x
+    length-is = ap lengthIn (sym (part-is s tab 2 e (f .is))) ∙ sym k
 
     pub lend-bad : (r : Place) → x ≡ Bad → lentBy s r ≡ usual s → lentBy s r ≡ orUsual s (lentAfter (drop 2 s))
     unfolding lentAfter Option·elim onNumber
@@ -56,9 +57,9 @@ module _ (s : List ℕ) (e : ℕ) (f : Found s 9 2 e) where
     pub lend-value : (n : ℕ) → x ≡ Value n → lentBy s (record { room = n; at = e + 1 }) ≡ orUsual s (lentAfter (drop 2 s))
     unfolding lentAfter Option·elim onNumber lentBy findAt
     lend-value n q =
-        let i : e ≡ 2 + length (before 9 (drop 2 s)) = f .is in
-        let j : 2 + (length (before 9 (drop 2 s)) + 1) ≡ e + 1 = omega arith in
-        rw (tab-some h, length-is, q, drop-drop (length (before 9 (drop 2 s)) + 1) 2 s, j)
+        let i : e ≡ 2 + length (before tab (drop 2 s)) = f .is in
+        let j : 2 + (length (before tab (drop 2 s)) + 1) ≡ e + 1 = omega arith in
+        rw (tab-some h, length-is, q, drop-drop (length (before tab (drop 2 s)) + 1) 2 s, j)
 
 pub ruleset lendings = (lend-open, lend-bad, lend-value)
 
@@ -68,7 +69,7 @@ module _ (s : List ℕ) (d : Bool) (r : Place) where
   unfolding lentIn Option·elim
   lend-plain h u = rw (not-true d h) u
 
-  module _ (t : Bool) (e : t ≡ begins (66 ∷ 9 ∷ []) s) (h : not d ≡ false) where
+  module _ (t : Bool) (e : t ≡ begins lendWord s) (h : not d ≡ false) where
     pub lend-word : t ≡ true → lentBy s r ≡ orUsual s (lentAfter (drop 2 s)) → lentBy s r ≡ lentIn d s
     unfolding lentIn Option·elim
     lend-word q u = rw (not-false d h, ← e, q) u

@@ -1,6 +1,6 @@
 -- Document 01, "Trace program": the fields of a line, with tabs between them, the words of the first one, and the longest line.
 use Prim.Native.Nat.{ℕ}
-use mathlib.Core.List.{List, [], _∷_}
+use mathlib.Core.List.{List}
 use mathlib.Core.Bool.{Bool, cond}
 use mathlib.Core.Option.{Option, none}
 use Rattle.octets.specs.Decimal.{readNumber, onNumber}

@@ -1,2 +1,2 @@
--- What can be said of a run.
+-- What a run leaves of its buffers.
 pub mod Run

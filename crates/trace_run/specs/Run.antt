@@ -1,4 +1,4 @@
--- What can be said of a run, which is what it does to the buffers that are lent: they are as long as they were.
+-- A run leaves the buffers that it is lent as long as they were. Contracts can't describe I/O, so nothing else is said of it.
 use Prim.Native.Nat.{ℕ}
 use mathlib.Core.Path.{_≡_}
 use mathlib.Core.List.{List}

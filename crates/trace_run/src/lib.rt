@@ -1,4 +1,4 @@
-// A run of a trace over one descriptor: lines in, lines out, to the end of the input.
+// Runs a trace over one descriptor: lines in, lines out, to the end of the input.
 ghost use Rattle.trace_run.specs.Run.{SameLengths};
 use libc::STDERR_FILENO;
 use line_input::gather;
@@ -9,14 +9,14 @@ use octets::spans::up_to;
 use trace::Phase;
 use trace::Session;
 
-// The most octets of a line of a detailed trace, without its LF: the length of a buffer may stand before the event.
+// The most octets of a line of a detailed trace, without its LF: the length of a buffer may come before the event.
 pub const MOST_DETAIL: usize = 4096;
 
-// Room that is kept for what one line prints, so that nothing is cut. The line of an event has fewer than 80 octets; in a detailed
-// trace at most 894 digits of a message stand behind it, and under 700 octets of a bearer.
+// Room that is kept for what one line prints, so that nothing is cut. The line of an event has fewer than 80 octets; a detailed
+// trace adds at most 894 digits of a message and fewer than 700 octets of a bearer.
 const LINE_ROOM: usize = 8192;
 
-// What is kept from line to line beside the session.
+// What is kept from line to line besides the session.
 struct Progress {
     // The line that is being gathered (`line_input::gather`).
     len: usize,
@@ -32,7 +32,7 @@ struct State {
     progress: Progress,
 }
 
-// A new line is gathered, and `at` octets wait to be written.
+// Gathers a new line, while `at` octets wait to be written.
 fn new_line(at: usize, going: bool) -> Progress {
     Progress {
         len: 0,
@@ -49,7 +49,7 @@ fn start() -> State {
     }
 }
 
-// The trace goes on after this phase.
+// Whether the trace goes on after this phase.
 fn goes_on(phase: Phase) -> bool {
     match phase {
         Phase::Start => true,
@@ -59,14 +59,15 @@ fn goes_on(phase: Phase) -> bool {
     }
 }
 
-// A line has been answered and has left this phase and `at` octets to write: room is made for the next.
+// A line has been answered, which leaves this phase and `at` octets to write. Makes room for the next line.
 fn answered(phase: Phase, at: usize, out: &[u8]) -> Progress {
     let mut progress = new_line(at, goes_on(phase));
     progress.output = make_room(out, progress.output, LINE_ROOM);
     progress
 }
 
-// The lines that end in part, and the beginning of the next. (`next` is always past i; the `if` shows that the loop ends.)
+// Answers the lines that end in `part`, and gathers the beginning of the next. (`next` is always past i; the `if` shows that the loop
+// ends.)
 fn feed(
     state: State,
     detailed: bool,
@@ -99,14 +100,14 @@ fn feed(
     State { session, progress }
 }
 
-// The input goes on no more; where it can't be read, standard error is told.
+// The input has ended. If it can't be read, says so on standard error.
 fn tell_end(got: isize) {
     if got < 0 {
         io::write_all(STDERR_FILENO, b"the input can't be read\n");
     }
 }
 
-// The output that waits is written.
+// Writes the output that waits.
 fn flushed(progress: Progress, out: &[u8]) -> Progress {
     let mut p = progress;
     let output = p.output;
@@ -116,7 +117,7 @@ fn flushed(progress: Progress, out: &[u8]) -> Progress {
     p
 }
 
-// Reads once, and answers what came.
+// Reads once, and answers what has come.
 fn turn(
     fd: i32,
     state: State,
@@ -144,8 +145,8 @@ fn turn(
     }
 }
 
-// Answers a line that no LF ended, if there is one. It is not whole, like a line that is too long: so it is marked as that, and
-// the LF that it lacks is given here.
+// Answers a line that no LF ended, if there is one. Like a line that is too long it is not whole, so it is marked as too long and
+// fed the missing LF.
 fn end_line(
     state: State,
     detailed: bool,
@@ -170,7 +171,7 @@ fn end_line(
     )
 }
 
-// Answers what is left at the end of the input: such a line, and a configuration that no event followed.
+// Answers what is left at the end of the input: such a line first, then a configuration that no event followed.
 fn finish(state: State, detailed: bool, line: &mut [u8], room: &mut [u8], out: &mut [u8]) {
     let st = end_line(state, detailed, line, room, out);
     let session = st.session;
@@ -180,9 +181,9 @@ fn finish(state: State, detailed: bool, line: &mut [u8], room: &mut [u8], out: &
     flush(out, output);
 }
 
-// Answers each line of fd's input, to its end or until the output is not taken. Nothing says that the input ends, so the loop
-// counts its turns down from a number that no run uses up. What goes through a descriptor no contract can speak of: of the
-// buffers it says that they are as long as they were.
+// Answers each line of fd's input, to its end or until the output can't be written. Nothing says that the input ends, so the loop
+// counts down from a number that no run uses up. Contracts can't describe I/O, so this one says only that the buffers keep their
+// lengths.
 pub fn run(
     fd: i32,
     detailed: bool,
@@ -191,7 +192,8 @@ pub fn run(
     room: &mut [u8],
     out: &mut [u8],
 )
-    ensures { λ _. ⌜ SameLengths (now (part .entry)) (now (part .exit)) (now (line .entry)) (now (line .exit)) (now (room .entry)) (now (room .exit)) (now (out .entry)) (now (out .exit)) ⌝ }
+    ensures { λ _. ⌜ SameLengths (now (part .entry)) (now (part .exit)) (now (line .entry)) (now (line .exit))
+        (now (room .entry)) (now (room .exit)) (now (out .entry)) (now (out .exit)) ⌝ }
 {
     let mut st = start();
     let mut turns = u64::MAX;

@@ -1,6 +1,6 @@
 -- What a detailed trace adds to the line of an event: the octets written and the bearer in force, with a blank before each.
 use Prim.Native.Nat.{ℕ}
-use mathlib.Core.List.{List, [], _∷_, _++_}
+use mathlib.Core.List.{List, _∷_, _++_}
 use mathlib.Core.Option.{Option, none, some}
 use Rattle.octets.specs.Append.{numberText}
 use Rattle.octets.specs.Text.{ascii, char, blank}

@@ -143,7 +143,7 @@ pub fn push_event(
     push_after(state, reply, out, k)
 }
 
-// Appends the line for a line that is no event.
+// Appends what is printed for a line that is no event.
 pub fn push_bad(number: u64, state: State, out: &mut [u8], at: usize) -> usize
     ensures { λ r. ⌜ Appends (now (out .entry)) at (eventText number none state (Reply.Refused 13)) r (now (out .exit)) ⌝ }
 {

@@ -1,5 +1,5 @@
-// Runs the traces in the files that are named, each under its name. The words `plain` and `detailed` say how those behind them are
-// printed, at first plain; behind `octets` they are read one octet at a time.
+// Runs the traces in the files that are named, and prints each file's name before its trace. The words `plain` and `detailed` say how
+// the files after them are printed, plain at first. The files after `octets` are read one octet at a time.
 use libc::STDOUT_FILENO;
 use octets::words::equals;
 use trace_read::USUAL_ROOM;
@@ -50,7 +50,7 @@ fn run_file(
     libc::close(fd);
 }
 
-// A word that says how, or the name of a file.
+// A word that says how files are printed or read, or the name of a file.
 fn run_word(
     word: &[u8],
     manner: Manner,

@@ -1,4 +1,4 @@
--- `large` meets its contract. The tests of the code are those of the definition.
+-- `large` meets its contract. The code makes the definition's tests.
 -- Assumes nothing.
 use borrow.Author.Needs.{needs}
 use Rattle.notation.proofs.Laws.{larges}

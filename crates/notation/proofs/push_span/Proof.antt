@@ -1,4 +1,4 @@
--- `push_span` meets its contract. The text is the one that the span stands for.
+-- `push_span` meets its contract. It appends the text of the span.
 -- Assumes nothing.
 use borrow.Author.Needs.{needs}
 use Rattle.notation.proofs.Laws.{span-shown}

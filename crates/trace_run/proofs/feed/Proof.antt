@@ -1,4 +1,4 @@
--- `feed` meets its contract. Each turn keeps the lengths of the buffers and goes on in the part.
+-- `feed` meets its contract. Each step keeps the lengths of the buffers and moves on in the part.
 -- Assumes nothing.
 use borrow.Author.Needs.{needs}
 use Rattle.trace_run.proofs.feed.Statement.{statement}

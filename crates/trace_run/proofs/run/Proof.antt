@@ -1,4 +1,4 @@
--- `run` meets its contract. Each turn keeps the buffers' lengths and counts down.
+-- `run` meets its contract. Each step keeps the buffers' lengths and counts down.
 -- Assumes nothing.
 use mathlib.Core.Path.{_≡_}
 use lib.ListN.{length}

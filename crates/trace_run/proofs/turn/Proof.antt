@@ -1,4 +1,4 @@
--- `turn` meets its contract: reading and answering keep the lengths of the buffers.
+-- `turn` meets its contract. Reading and answering keep the lengths of the buffers.
 -- Assumes nothing.
 use borrow.Author.Needs.{needs}
 use Rattle.trace_run.proofs.turn.Statement.{statement}

@@ -1,4 +1,4 @@
--- `run_all` meets its contract. Each turn keeps the buffers' lengths and goes on in the arguments.
+-- `run_all` meets its contract. Each step keeps the buffers' lengths and moves on in the arguments.
 -- Assumes nothing.
 use Prim.Native.Nat.{_-_}
 use mathlib.Core.Path.{_≡_}

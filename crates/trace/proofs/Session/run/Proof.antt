@@ -1,4 +1,4 @@
--- `Session::run` meets its contract: what the line asks for is given to the endpoint, with the room that it asks for.
+-- `Session::run` meets its contract. The line's event is given to the endpoint, with the room that the line asks for.
 -- Assumes nothing.
 use borrow.Author.Needs.{needs}
 use Rattle.trace.proofs.Session.run.Statement.{statement}

@@ -1,4 +1,4 @@
--- `events::next_number` meets its contract. The tests of the code are those of the definition.
+-- `events::next_number` meets its contract. The code makes the definition's tests.
 -- Assumes nothing.
 use borrow.Author.Needs.{needs}
 use Rattle.trace.proofs.EventLaws.{numbers}

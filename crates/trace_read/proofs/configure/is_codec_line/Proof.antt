@@ -1,4 +1,4 @@
--- `configure::is_codec_line` meets its contract. It is the first field that is compared.
+-- `configure::is_codec_line` meets its contract. It compares the first field.
 -- Assumes nothing.
 use borrow.Author.Needs.{needs}
 use Rattle.trace_read.proofs.FieldLaws.{onFields}

@@ -1,4 +1,4 @@
--- `configure::no_codec` meets its contract. What is not known is none.
+-- `configure::no_codec` meets its contract. A codec that is not known is none.
 -- Assumes nothing.
 use borrow.Author.Needs.{needs}
 use Rattle.trace_read.proofs.CodecLaws.{found-none}

@@ -1,4 +1,4 @@
--- `configure::read_codec` meets its contract. A text with no digit is no payload and no name.
+-- `configure::read_codec` meets its contract. The empty text is neither a payload nor a name.
 -- Assumes nothing.
 use borrow.Author.Needs.{needs}
 use Rattle.trace_read.proofs.CodecLaws.{eithers}

@@ -1,4 +1,4 @@
--- `configure::timed` meets its contract. A number that no octet holds can't be used.
+-- `configure::timed` meets its contract. A number that does not fit in an octet is not valid.
 -- Assumes nothing.
 use borrow.Author.Needs.{needs}
 use Rattle.trace_read.proofs.ConfigureLaws.{times}

@@ -1,4 +1,4 @@
--- `configure::unread` meets its contract. It counts no codec.
+-- `configure::unread` meets its contract. It has no codec.
 -- Assumes nothing.
 use borrow.Author.Needs.{needs}
 use Rattle.trace_read.proofs.ConfigureLaws.{none-inside}

@@ -1,4 +1,4 @@
--- `events::other` meets its contract. With two fields the first is not the word of messages.
+-- `events::other` meets its contract. With two fields the first is not `M`.
 -- Assumes nothing.
 use borrow.Author.Needs.{needs}
 use Rattle.trace_read.proofs.EventLaws.{others}

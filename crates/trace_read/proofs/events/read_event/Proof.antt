@@ -1,4 +1,4 @@
--- `events::read_event` meets its contract. A line that is short enough is one of messages or another one.
+-- `events::read_event` meets its contract. A line that is not too long is a message or another event.
 -- Assumes nothing.
 use borrow.Author.Needs.{needs}
 use Rattle.octets.proofs.Pick.{flags}
