@@ -57,7 +57,7 @@ either P true v w p q = p
 either P false v w p q = q
 
 -- what holds of number 5, and of the verdict with any octets, holds of a message that is written
-saying : (P : Verdict → Type 0) (o : Option (List ℕ)) (v : List ℕ → Verdict) → P (refused 5) → ((x : List ℕ) → P (v x)) → P (said o v)
+pub saying : (P : Verdict → Type 0) (o : Option (List ℕ)) (v : List ℕ → Verdict) → P (refused 5) → ((x : List ℕ) → P (v x)) → P (said o v)
 saying P none v p q = p
 saying P (some o) v p q = q o
 
