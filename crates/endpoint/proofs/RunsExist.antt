@@ -41,12 +41,12 @@ use Rattle.bearer.specs.Hearing.{Heard, bearerIn, heardBy, heard}
 use Rattle.bearer.specs.Judging.{offered, commanded, rightRequest, restated, granted, acceptedFor, rightAccepted}
 use Rattle.bearer.specs.Meaning.{requestBy, bearerBy}
 use Rattle.endpoint.specs.declared.Endpoint.{Endpoint}
-use Rattle.endpoint.specs.Rule.{Book, Verdict, Event, setUp, change, release, t1, t2, message, Given, commanding, confusing, rejecting, judging, taking, answering, hearing, ruled, rule, leastRoom}
+use Rattle.endpoint.specs.Rule.{Book, Verdict, Event, setUp, change, release, t1, t2, message, Given, commandVerdict, answerConfused, answerRejected, requestVerdict, acceptedVerdict, ifAwaited, messageVerdict, eventVerdict, rule, leastRoom}
 use Rattle.endpoint.specs.Step.{bookOf, replyFor, outFor, Unaltered}
 use Rattle.endpoint.specs.Private.{Same}
 use Rattle.endpoint.specs.Demand.{begun, after, HasAnswer, HasRun}
 use Rattle.endpoint.proofs.VerdictLaws.{same-closed, same-opening, same-settling}
-use Rattle.endpoint.proofs.Ruled.{either, saying}
+use Rattle.endpoint.proofs.Ruled.{either, ifWritable-all}
 
 -- ---- no verdict names more than three fmtp texts
 abbrev Few : Stream → Type 0
@@ -118,63 +118,63 @@ FewBy (requestRight b o) = Few (b .stream)
 FewBy (requestWrong o) = Unit {0}
 
 module _ (c : Configuration) where
-  commanding-few : (q : Option Stream) → FewOffered q → FewBy (commanding c q)
-  commanding-few none p = tt
-  commanding-few (some q) p = saying FewBy (messageOctets (c .own) (writing.requestContent q)) (λ o. opened q o) tt (λ o. p)
+  commandVerdict-few : (q : Option Stream) → FewOffered q → FewBy (commandVerdict c q)
+  commandVerdict-few none p = tt
+  commandVerdict-few (some q) p = ifWritable-all FewBy (messageOctets (c .own) (writing.requestContent q)) (λ o. opened q o) tt (λ o. p)
 
-  rejecting-few : FewBy (rejecting c)
-  rejecting-few = saying FewBy (messageOctets (c .own) writing.rejectedContent) (λ o. requestWrong o) tt (λ o. tt)
+  answerRejected-few : FewBy (answerRejected c)
+  answerRejected-few = ifWritable-all FewBy (messageOctets (c .own) writing.rejectedContent) (λ o. requestWrong o) tt (λ o. tt)
 
-  judging-few : (f d : Option Bearer) → FewNamed d → FewBy (judging c f d)
+  requestVerdict-few : (f d : Option Bearer) → FewNamed d → FewBy (requestVerdict c f d)
   unfolding granted restated
-  judging-few f none p = rejecting-few
-  judging-few f (some d) p =
+  requestVerdict-few f none p = answerRejected-few
+  requestVerdict-few f (some d) p =
       either FewBy (rightRequest c f d) _ _
-      (saying FewBy (messageOctets (c .own) (writing.acceptedContent (acceptedFor c d))) (λ o. requestRight (granted c d) o) tt (λ o. p))
-      rejecting-few
+      (ifWritable-all FewBy (messageOctets (c .own) (writing.acceptedContent (acceptedFor c d))) (λ o. requestRight (granted c d) o) tt (λ o. p))
+      answerRejected-few
 
-  taking-few : (f : Option Bearer) (q : Stream) (d : Option Bearer) → FewNamed d → FewBy (taking c f q d)
-  taking-few f q none p = tt
-  taking-few f q (some d) p = either FewBy (rightAccepted c f q d) (agreed d) failed p tt
+  acceptedVerdict-few : (f : Option Bearer) (q : Stream) (d : Option Bearer) → FewNamed d → FewBy (acceptedVerdict c f q d)
+  acceptedVerdict-few f q none p = tt
+  acceptedVerdict-few f q (some d) p = either FewBy (rightAccepted c f q d) (agreed d) failed p tt
 
-  answering-few : (o : Option Stream) (v : Stream → Verdict) → ((q : Stream) → FewBy (v q)) → FewBy (answering o v)
-  answering-few none v p = tt
-  answering-few (some q) v p = p q
+  ifAwaited-few : (o : Option Stream) (v : Stream → Verdict) → ((q : Stream) → FewBy (v q)) → FewBy (ifAwaited o v)
+  ifAwaited-few none v p = tt
+  ifAwaited-few (some q) v p = p q
 
-  hearing-few : (k : Book) (h : Heard) → FewHeard h → FewBy (hearing c k h)
-  hearing-few k hears.nothingHeard p = tt
-  hearing-few k hears.otherVersionHeard p =
-      either FewBy (ignores k) discarded (confusing c) tt (saying FewBy (messageOctets (c .own) writing.confusedContent) (λ o. requestConfused o) tt (λ o. tt))
-  hearing-few k (hears.requestHeard d) p = either FewBy (ignores k) discarded (judging c (settled k) d) tt (judging-few (settled k) d p)
-  hearing-few k (hears.acceptedHeard d) p = answering-few (awaited k) (λ q. taking c (settled k) q d) (λ q. taking-few (settled k) q d p)
-  hearing-few k hears.declineHeard p = answering-few (awaited k) (λ q. failed) (λ q. tt)
+  messageVerdict-few : (k : Book) (h : Heard) → FewHeard h → FewBy (messageVerdict c k h)
+  messageVerdict-few k hears.nothingHeard p = tt
+  messageVerdict-few k hears.otherVersionHeard p =
+      either FewBy (ignores k) discarded (answerConfused c) tt (ifWritable-all FewBy (messageOctets (c .own) writing.confusedContent) (λ o. requestConfused o) tt (λ o. tt))
+  messageVerdict-few k (hears.requestHeard d) p = either FewBy (ignores k) discarded (requestVerdict c (settled k) d) tt (requestVerdict-few (settled k) d p)
+  messageVerdict-few k (hears.acceptedHeard d) p = ifAwaited-few (awaited k) (λ q. acceptedVerdict c (settled k) q d) (λ q. acceptedVerdict-few (settled k) q d p)
+  messageVerdict-few k hears.declineHeard p = ifAwaited-few (awaited k) (λ q. failed) (λ q. tt)
 
-  ruled-few : (k : Book) (e : Event) → FewBy (ruled c k e)
-  ruled-few idle (setUp n p t) = commanding-few (commanded c n p t) (commanded-few c n p t)
-  ruled-few (awaitSetup q) (setUp n p t) = tt
-  ruled-few (up s b) (setUp n p t) = tt
-  ruled-few (awaitChange s b q) (setUp n p t) = tt
-  ruled-few idle (change n p t) = tt
-  ruled-few (awaitSetup q) (change n p t) = tt
-  ruled-few (up s b) (change n p t) = commanding-few (commanded c n p t) (commanded-few c n p t)
-  ruled-few (awaitChange s b q) (change n p t) = tt
-  ruled-few idle release = tt
-  ruled-few (awaitSetup q) release = tt
-  ruled-few (up s b) release = tt
-  ruled-few (awaitChange s b q) release = tt
-  ruled-few idle t1 = tt
-  ruled-few (awaitSetup q) t1 = tt
-  ruled-few (up s b) t1 = tt
-  ruled-few (awaitChange s b q) t1 = tt
-  ruled-few idle t2 = tt
-  ruled-few (awaitSetup q) t2 = tt
-  ruled-few (up s b) t2 = tt
-  ruled-few (awaitChange s b q) t2 = tt
-  ruled-few k (message m) = hearing-few k (heard m) (heard-few m)
+  eventVerdict-few : (k : Book) (e : Event) → FewBy (eventVerdict c k e)
+  eventVerdict-few idle (setUp n p t) = commandVerdict-few (commanded c n p t) (commanded-few c n p t)
+  eventVerdict-few (awaitSetup q) (setUp n p t) = tt
+  eventVerdict-few (up s b) (setUp n p t) = tt
+  eventVerdict-few (awaitChange s b q) (setUp n p t) = tt
+  eventVerdict-few idle (change n p t) = tt
+  eventVerdict-few (awaitSetup q) (change n p t) = tt
+  eventVerdict-few (up s b) (change n p t) = commandVerdict-few (commanded c n p t) (commanded-few c n p t)
+  eventVerdict-few (awaitChange s b q) (change n p t) = tt
+  eventVerdict-few idle release = tt
+  eventVerdict-few (awaitSetup q) release = tt
+  eventVerdict-few (up s b) release = tt
+  eventVerdict-few (awaitChange s b q) release = tt
+  eventVerdict-few idle t1 = tt
+  eventVerdict-few (awaitSetup q) t1 = tt
+  eventVerdict-few (up s b) t1 = tt
+  eventVerdict-few (awaitChange s b q) t1 = tt
+  eventVerdict-few idle t2 = tt
+  eventVerdict-few (awaitSetup q) t2 = tt
+  eventVerdict-few (up s b) t2 = tt
+  eventVerdict-few (awaitChange s b q) t2 = tt
+  eventVerdict-few k (message m) = messageVerdict-few k (heard m) (heard-few m)
 
   rule-few : (k : Book) (g : Given) → FewBy (rule c k g)
   unfolding rule
-  rule-few k g = either FewBy (ltb (g .room) leastRoom) (refused 4) (ruled c k (g .event)) tt (ruled-few k (g .event))
+  rule-few k g = either FewBy (ltb (g .room) leastRoom) (refused 4) (eventVerdict c k (g .event)) tt (eventVerdict-few k (g .event))
 
 -- ---- texts laid one after another
 -- p is where t stands in m
