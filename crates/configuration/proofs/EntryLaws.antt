@@ -13,7 +13,7 @@ use Rattle.configuration.specs.declared.Codec.{Codec as Place}
 use Rattle.configuration.specs.declared.Config.{Config}
 use Rattle.configuration.specs.Configuration.{Codec, names, namedIn, entryIn}
 use Rattle.configuration.specs.Meaning.{codecBy, codecsBy, blankCodec, FoundAt}
-use Rattle.configuration.specs.Steps.{EntryCount}
+use Rattle.configuration.specs.Private.{EntryCount}
 
 -- ---- how many there are
 module _ (c : Config) where

@@ -2,4 +2,4 @@
 -- `Steps` is for private functions.
 pub mod Configuration
 pub mod Meaning
-pub mod Steps
+pub mod Private

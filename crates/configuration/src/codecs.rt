@@ -3,7 +3,7 @@ ghost use mathlib.Core.Path.{_≡_};
 ghost use Rattle.octets.specs.Append.{Appends};
 ghost use Rattle.configuration.specs.Configuration.{suits, nameOf, names, namedIn};
 ghost use Rattle.configuration.specs.Meaning.{codecBy, codecsBy, blankCodec, FoundAt};
-ghost use Rattle.configuration.specs.Steps.{EntryCount};
+ghost use Rattle.configuration.specs.Private.{EntryCount};
 use crate::Codec;
 use crate::Config;
 use crate::Format;

@@ -36,7 +36,7 @@ use Rattle.judge.specs.Commands.{commandBy, Commands}
 use Rattle.endpoint.specs.declared.Endpoint.{Endpoint}
 use Rattle.endpoint.specs.declared.Answer.{Answer}
 use Rattle.endpoint.specs.declared.Event as code
-use Rattle.endpoint.specs.Rule.{Verdict, Event, said, commanding, ruled, rule, leastRoom}
+use Rattle.endpoint.specs.Rule.{Verdict, Event, ifWritable, commandVerdict, eventVerdict, rule, leastRoom}
 use Rattle.endpoint.specs.Step.{bookBy, bookOf, Gave, Did, eventBy}
 use Rattle.endpoint.specs.Private.{Silent, Says}
 
@@ -47,13 +47,13 @@ offered-content q h = rw h
 
 -- ---- the timers' rules, read on the state
 module _ (c : Configuration) where
-  t1-by : (st : State) (s : Side) (q : Stream) (b : Bearer) → ruled c (bookBy st s q b) Event.t1 ≡ cond (awaitsT1 st) failed discarded
+  t1-by : (st : State) (s : Side) (q : Stream) (b : Bearer) → eventVerdict c (bookBy st s q b) Event.t1 ≡ cond (awaitsT1 st) failed discarded
   t1-by Idle s q b = refl
   t1-by AwaitSetup s q b = refl
   t1-by Up s q b = refl
   t1-by AwaitChange s q b = refl
 
-  t2-by : (st : State) (s : Side) (q : Stream) (b : Bearer) → ruled c (bookBy st s q b) Event.t2 ≡ cond (awaitsT2 st) failed discarded
+  t2-by : (st : State) (s : Side) (q : Stream) (b : Bearer) → eventVerdict c (bookBy st s q b) Event.t2 ≡ cond (awaitsT2 st) failed discarded
   t2-by Idle s q b = refl
   t2-by AwaitSetup s q b = refl
   t2-by Up s q b = refl
@@ -64,26 +64,26 @@ module _ (self : Endpoint) where
   pub did-short : (e : Event) (xs : List ℕ) (r : Answer) → length xs < leastRoom → Silent self (refused 4) r → Did self e xs xs r
   unfolding rule
   did-short e xs r h g =
-      subst (λ (v : Verdict). Gave self v xs xs r) (ap (λ (t : Bool). cond t (refused 4) (ruled (configurationBy (self .config)) (bookOf self) e)) (sym (lt-ltb _ _ h))) (g xs)
+      subst (λ (v : Verdict). Gave self v xs xs r) (ap (λ (t : Bool). cond t (refused 4) (eventVerdict (configurationBy (self .config)) (bookOf self) e)) (sym (lt-ltb _ _ h))) (g xs)
 
   -- an event in a state that is known, whose buffer is long enough
   pub did : (e : Event) (xs ys : List ℕ) (r : Answer) (s : State) (v : Verdict) → leastRoom ≤ length xs → self .state ≡ s → Gave self v xs ys r
-      → ruled (configurationBy (self .config)) (bookBy s (self .side) (requestBy (self .request)) (bearerBy (self .bearer))) e ≡ v → Did self e xs ys r
+      → eventVerdict (configurationBy (self .config)) (bookBy s (self .side) (requestBy (self .request)) (bearerBy (self .bearer))) e ≡ v → Did self e xs ys r
   unfolding rule
   did e xs ys r s v h p g q =
       subst (λ (w : Verdict). Gave self w xs ys r)
-      (sym (ap (λ (t : Bool). cond t (refused 4) (ruled (configurationBy (self .config)) (bookOf self) e)) (le-ltb _ _ h)
-      ∙ ap (λ (st : State). ruled (configurationBy (self .config)) (bookBy st (self .side) (requestBy (self .request)) (bearerBy (self .bearer))) e) p
+      (sym (ap (λ (t : Bool). cond t (refused 4) (eventVerdict (configurationBy (self .config)) (bookOf self) e)) (le-ltb _ _ h)
+      ∙ ap (λ (st : State). eventVerdict (configurationBy (self .config)) (bookBy st (self .side) (requestBy (self .request)) (bearerBy (self .bearer))) e) p
       ∙ q)) g
 
   -- the same where nothing is written
   pub did-silent : (e : Event) (xs : List ℕ) (r : Answer) (s : State) (v : Verdict) → leastRoom ≤ length xs → self .state ≡ s → Silent self v r
-      → ruled (configurationBy (self .config)) (bookBy s (self .side) (requestBy (self .request)) (bearerBy (self .bearer))) e ≡ v → Did self e xs xs r
+      → eventVerdict (configurationBy (self .config)) (bookBy s (self .side) (requestBy (self .request)) (bearerBy (self .bearer))) e ≡ v → Did self e xs xs r
   did-silent e xs r s v h p g q = did e xs xs r s v h p (g xs) q
 
   -- ---- timers: one that is awaited ends the attempt, and any other is discarded; t and w are whether it is awaited
   module _ (t : Bool) (xs : List ℕ) (r : Answer) (l : leastRoom ≤ length xs) where
-    timed : (e : Event) (w : Bool) → ruled (configurationBy (self .config)) (bookOf self) e ≡ cond w failed discarded → t ≡ w → Silent self (cond t failed discarded) r → Did self e xs xs r
+    timed : (e : Event) (w : Bool) → eventVerdict (configurationBy (self .config)) (bookOf self) e ≡ cond w failed discarded → t ≡ w → Silent self (cond t failed discarded) r → Did self e xs xs r
     timed e w k p g = did-silent e xs r (self .state) (cond t failed discarded) l refl g (k ∙ ap (λ (b : Bool). cond b failed discarded) (sym p))
 
     by-t1 : t ≡ awaitsT1 (self .state) → Silent self (cond t failed discarded) r → Did self Event.t1 xs xs r
@@ -106,14 +106,14 @@ module _ (self : Endpoint) where
 
   -- ---- a message that a writer was asked for
   -- it writes octets, or refuses by 5
-  pub wrote : (o : Option (List ℕ)) (v : List ℕ → Verdict) (xs ys : List ℕ) (n : ℕ) (r : Answer) → Puts o xs (Octets n) ys → Says self v n r → Gave self (said o v) xs ys r
+  pub wrote : (o : Option (List ℕ)) (v : List ℕ → Verdict) (xs ys : List ℕ) (n : ℕ) (r : Answer) → Puts o xs (Octets n) ys → Says self v n r → Gave self (ifWritable o v) xs ys r
   wrote none v xs ys n r p g = absurd (puts-no xs n ys p)
   wrote (some t) v xs ys n r p g =
       let (count, leaves) = puts-some t xs n ys p in
       subst (λ (zs : List ℕ). Gave self (v t) xs zs r) (sym leaves) (g t xs (sym count))
 
   pub unwritten : (o : Option (List ℕ)) (v : List ℕ → Verdict) (xs ys : List ℕ) (n : ℕ) (r : Answer) → ((t : List ℕ) → o ≡ some t → length t ≤ length xs)
-      → Puts o xs (Refused n) ys → Silent self (refused n) r → Gave self (said o v) xs ys r
+      → Puts o xs (Refused n) ys → Silent self (refused n) r → Gave self (ifWritable o v) xs ys r
   unfolding putAnswer putLeaves
   unwritten none v xs ys n r short p g =
       let five : n ≡ 5 = (let q : Refused n ≡ Refused 5 = p .answers in cc) in
@@ -129,26 +129,26 @@ module _ (self : Endpoint) where
     unfolding messageOctetsIn
     asked = subst (λ (x : Option Content). Puts (messageOctetsIn own x) xs p ys) e puts
 
-    pub said-octets : (n : ℕ) (r : Answer) → p ≡ Octets n → Says self v n r → Gave self (said (messageOctets own c) v) xs ys r
-    said-octets n r q g = wrote (messageOctets own c) v xs ys n r (subst (λ (x : Put). Puts (messageOctets own c) xs x ys) q asked) g
+    pub ifWritable-octets : (n : ℕ) (r : Answer) → p ≡ Octets n → Says self v n r → Gave self (ifWritable (messageOctets own c) v) xs ys r
+    ifWritable-octets n r q g = wrote (messageOctets own c) v xs ys n r (subst (λ (x : Put). Puts (messageOctets own c) xs x ys) q asked) g
 
-    pub said-refused : (n : ℕ) (r : Answer) → leastRoom ≤ length xs → p ≡ Refused n → Silent self (refused n) r → Gave self (said (messageOctets own c) v) xs ys r
-    said-refused n r room q g =
+    pub ifWritable-refused : (n : ℕ) (r : Answer) → leastRoom ≤ length xs → p ≡ Refused n → Silent self (refused n) r → Gave self (ifWritable (messageOctets own c) v) xs ys r
+    ifWritable-refused n r room q g =
         unwritten (messageOctets own c) v xs ys n r (λ t h. let (_, _, few, _) = octets-are own c t h in omega arith)
         (subst (λ (x : Put). Puts (messageOctets own c) xs x ys) q asked) g
 
   -- ---- commands
   module _ (entry payload ptime : ℕ) (m : Command) (h : Commands (configurationBy (self .config)) entry payload ptime m) where
-    commanded-as : (o : Option Stream) → commandBy m ≡ o → (xs ys : List ℕ) (r : Answer) → Gave self (commanding (configurationBy (self .config)) o) xs ys r
-        → Gave self (commanding (configurationBy (self .config)) (commanded (configurationBy (self .config)) entry payload ptime)) xs ys r
-    commanded-as o e xs ys r g = subst (λ (x : Option Stream). Gave self (commanding (configurationBy (self .config)) x) xs ys r) (sym e ∙ h .is) g
+    commanded-as : (o : Option Stream) → commandBy m ≡ o → (xs ys : List ℕ) (r : Answer) → Gave self (commandVerdict (configurationBy (self .config)) o) xs ys r
+        → Gave self (commandVerdict (configurationBy (self .config)) (commanded (configurationBy (self .config)) entry payload ptime)) xs ys r
+    commanded-as o e xs ys r g = subst (λ (x : Option Stream). Gave self (commandVerdict (configurationBy (self .config)) x) xs ys r) (sym e ∙ h .is) g
 
-    pub command-right : (xs ys : List ℕ) (r : Answer) → m .suits ≡ true → Gave self (commanding (configurationBy (self .config)) (some (requestBy (m .request)))) xs ys r
-        → Gave self (commanding (configurationBy (self .config)) (commanded (configurationBy (self .config)) entry payload ptime)) xs ys r
+    pub command-right : (xs ys : List ℕ) (r : Answer) → m .suits ≡ true → Gave self (commandVerdict (configurationBy (self .config)) (some (requestBy (m .request)))) xs ys r
+        → Gave self (commandVerdict (configurationBy (self .config)) (commanded (configurationBy (self .config)) entry payload ptime)) xs ys r
     command-right xs ys r q g = commanded-as (some (requestBy (m .request))) (rw q) xs ys r g
 
     pub command-wrong : (xs : List ℕ) (r : Answer) → m .suits ≡ false → Silent self (refused 5) r
-        → Gave self (commanding (configurationBy (self .config)) (commanded (configurationBy (self .config)) entry payload ptime)) xs xs r
+        → Gave self (commandVerdict (configurationBy (self .config)) (commanded (configurationBy (self .config)) entry payload ptime)) xs xs r
     command-wrong xs r q g = commanded-as none (rw q) xs xs r (g xs)
 
   -- ---- one way in for every event

@@ -5,4 +5,5 @@ pub mod EventLaws
 pub mod MessageLaws
 pub mod Ruled
 pub mod Demand
+pub mod RunsExist
 pub mod Promises

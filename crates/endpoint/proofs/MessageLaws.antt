@@ -36,11 +36,11 @@ use Rattle.bearer.specs.Meaning.{requestBy, bearerBy, bearerInside, namedBy, he
 use Rattle.bearer.proofs.HeldLaws.{streamIn-by, restated-by, held-names, held-inside, heard-short, accepted-short}
 use Rattle.endpoint.specs.declared.Endpoint.{Endpoint}
 use Rattle.endpoint.specs.declared.Answer.{Answer}
-use Rattle.endpoint.specs.Rule.{Verdict, Event, rejecting, accepting, judging, taking, answering, hearing, leastRoom}
+use Rattle.endpoint.specs.Rule.{Verdict, Event, answerRejected, answerAccepted, requestVerdict, acceptedVerdict, ifAwaited, messageVerdict, leastRoom}
 use Rattle.endpoint.specs.Step.{bookBy, bookOf, Gave, Did}
 use Rattle.endpoint.specs.Private.{Silent, Says, Readable, Answerable}
 use Rattle.endpoint.proofs.VerdictLaws.{held-by, ignores-by}
-use Rattle.endpoint.proofs.EventLaws.{did, said-octets, said-refused}
+use Rattle.endpoint.proofs.EventLaws.{did, ifWritable-octets, ifWritable-refused}
 
 -- ---- the open Request, read on the state
 awaited-yes : (st : State) (s : Side) (q : Stream) (b : Bearer) → awaitsAt st ≡ true → awaited (bookBy st s q b) ≡ some q
@@ -79,14 +79,14 @@ module _ (self : Endpoint) where
 
   -- ---- an answer to our Request: discarded, or given the verdict v
   module _ (t : Bool) (p : t ≡ awaitsAt (self .state)) (v : Stream → Verdict) where
-    pub heard-unawaited : (r : Answer) → t ≡ false → Silent self discarded r → Silent self (answering (awaited (bookOf self)) v) r
+    pub heard-unawaited : (r : Answer) → t ≡ false → Silent self discarded r → Silent self (ifAwaited (awaited (bookOf self)) v) r
     heard-unawaited r q g xs =
-        subst (λ (o : Option Stream). Gave self (answering o v) xs xs r)
+        subst (λ (o : Option Stream). Gave self (ifAwaited o v) xs xs r)
         (sym (awaited-no (self .state) (self .side) (requestBy (self .request)) (bearerBy (self .bearer)) (sym p ∙ q))) (g xs)
 
-    pub heard-awaited : (r : Answer) → t ≡ true → Silent self (v (requestBy (self .request))) r → Silent self (answering (awaited (bookOf self)) v) r
+    pub heard-awaited : (r : Answer) → t ≡ true → Silent self (v (requestBy (self .request))) r → Silent self (ifAwaited (awaited (bookOf self)) v) r
     heard-awaited r q g xs =
-        subst (λ (o : Option Stream). Gave self (answering o v) xs xs r)
+        subst (λ (o : Option Stream). Gave self (ifAwaited o v) xs xs r)
         (sym (awaited-yes (self .state) (self .side) (requestBy (self .request)) (bearerBy (self .bearer)) (sym p ∙ q))) (g xs)
 
   -- the bearer in force, read on the state
@@ -99,15 +99,15 @@ module _ (self : Endpoint) where
     judged =
         ap (λ (f : Option Bearer). rightRequest (configurationBy (self .config)) f d) (in-force held h) ∙ sym e
 
-    pub judged-right : (xs ys : List ℕ) (r : Answer) → t ≡ true → Gave self (accepting (configurationBy (self .config)) d) xs ys r
-        → Gave self (judging (configurationBy (self .config)) (settled (bookOf self)) (some d)) xs ys r
+    pub judged-right : (xs ys : List ℕ) (r : Answer) → t ≡ true → Gave self (answerAccepted (configurationBy (self .config)) d) xs ys r
+        → Gave self (requestVerdict (configurationBy (self .config)) (settled (bookOf self)) (some d)) xs ys r
     judged-right xs ys r q g =
-        subst (λ (b : Bool). Gave self (cond b (accepting (configurationBy (self .config)) d) (rejecting (configurationBy (self .config)))) xs ys r) (sym (judged ∙ q)) g
+        subst (λ (b : Bool). Gave self (cond b (answerAccepted (configurationBy (self .config)) d) (answerRejected (configurationBy (self .config)))) xs ys r) (sym (judged ∙ q)) g
 
-    pub judged-wrong : (xs ys : List ℕ) (r : Answer) → t ≡ false → Gave self (rejecting (configurationBy (self .config))) xs ys r
-        → Gave self (judging (configurationBy (self .config)) (settled (bookOf self)) (some d)) xs ys r
+    pub judged-wrong : (xs ys : List ℕ) (r : Answer) → t ≡ false → Gave self (answerRejected (configurationBy (self .config))) xs ys r
+        → Gave self (requestVerdict (configurationBy (self .config)) (settled (bookOf self)) (some d)) xs ys r
     judged-wrong xs ys r q g =
-        subst (λ (b : Bool). Gave self (cond b (accepting (configurationBy (self .config)) d) (rejecting (configurationBy (self .config)))) xs ys r) (sym (judged ∙ q)) g
+        subst (λ (b : Bool). Gave self (cond b (answerAccepted (configurationBy (self .config)) d) (answerRejected (configurationBy (self .config)))) xs ys r) (sym (judged ∙ q)) g
 
   -- ---- an Accepted judged
   module _ (held t : Bool) (d : Bearer) (h : held ≡ holdsAt (self .state))
@@ -116,10 +116,10 @@ module _ (self : Endpoint) where
     taken =
         ap (λ (f : Option Bearer). rightAccepted (configurationBy (self .config)) f (requestBy (self .request)) d) (in-force held h) ∙ sym e
 
-    pub taken-right : (r : Answer) → t ≡ true → Silent self (agreed d) r → Silent self (taking (configurationBy (self .config)) (settled (bookOf self)) (requestBy (self .request)) (some d)) r
+    pub taken-right : (r : Answer) → t ≡ true → Silent self (agreed d) r → Silent self (acceptedVerdict (configurationBy (self .config)) (settled (bookOf self)) (requestBy (self .request)) (some d)) r
     taken-right r q g xs = subst (λ (b : Bool). Gave self (cond b (agreed d) failed) xs xs r) (sym (taken ∙ q)) (g xs)
 
-    pub taken-wrong : (r : Answer) → t ≡ false → Silent self failed r → Silent self (taking (configurationBy (self .config)) (settled (bookOf self)) (requestBy (self .request)) (some d)) r
+    pub taken-wrong : (r : Answer) → t ≡ false → Silent self failed r → Silent self (acceptedVerdict (configurationBy (self .config)) (settled (bookOf self)) (requestBy (self .request)) (some d)) r
     taken-wrong r q g xs = subst (λ (b : Bool). Gave self (cond b (agreed d) failed) xs xs r) (sym (taken ∙ q)) (g xs)
 
   -- the bearer that is held for an Accepted is the one that it names
@@ -147,27 +147,27 @@ module _ (self : Endpoint) where
     module _ (q : Places) (at : q ≡ placesAs (self .config .port) ptime s) (ys : List ℕ) (p : Put)
         (puts : Puts (messageOctetsIn (self .config .own) (contentIn m (asked-for.Accepted q))) xs p ys) where
       pub accept-octets : (u : Places) (b : held.Bearer) (n : ℕ) (r : Answer) → u ≡ placesAs (s .port) ptime s → b ≡ bearerAs a u m → p ≡ Octets n
-          → Says self (λ o. requestRight (bearerBy b) o) n r → Gave self (accepting (configurationBy (self .config)) (namedBy m a s)) xs ys r
+          → Says self (λ o. requestRight (bearerBy b) o) n r → Gave self (answerAccepted (configurationBy (self .config)) (namedBy m a s)) xs ys r
       unfolding configurationBy
       accept-octets u b n r pu pb pn g =
-          said-octets self (self .config .own) (writing.acceptedContent (acceptedFor (configurationBy (self .config)) (namedBy m a s)))
+          ifWritable-octets self (self .config .own) (writing.acceptedContent (acceptedFor (configurationBy (self .config)) (namedBy m a s)))
           (λ o. requestRight (granted (configurationBy (self .config)) (namedBy m a s)) o) xs ys p (contentIn m (asked-for.Accepted q)) (answer-content q at) puts n r pn
           (subst (λ (x : Bearer). Says self (λ o. requestRight x o) n r) (granted-held u b pu pb) g)
 
-      pub accept-refused : (n : ℕ) (r : Answer) → p ≡ Refused n → Silent self (refused n) r → Gave self (accepting (configurationBy (self .config)) (namedBy m a s)) xs ys r
+      pub accept-refused : (n : ℕ) (r : Answer) → p ≡ Refused n → Silent self (refused n) r → Gave self (answerAccepted (configurationBy (self .config)) (namedBy m a s)) xs ys r
       unfolding configurationBy
       accept-refused n r pn g =
-          said-refused self (self .config .own) (writing.acceptedContent (acceptedFor (configurationBy (self .config)) (namedBy m a s)))
+          ifWritable-refused self (self .config .own) (writing.acceptedContent (acceptedFor (configurationBy (self .config)) (namedBy m a s)))
           (λ o. requestRight (granted (configurationBy (self .config)) (namedBy m a s)) o) xs ys p (contentIn m (asked-for.Accepted q)) (answer-content q at) puts n r (k .room) pn g
 
   -- ---- what was heard of m
   module _ (m : List ℕ) (z : took.Heard) (h : heardIn m z ≡ some (heard m)) where
     -- a message that is heard as such gets the rules' verdict on that
-    did-heard : (xs ys : List ℕ) (r : Answer) (x : Heard) → leastRoom ≤ length xs → heard m ≡ x → Gave self (hearing (configurationBy (self .config)) (bookOf self) x) xs ys r
+    did-heard : (xs ys : List ℕ) (r : Answer) (x : Heard) → leastRoom ≤ length xs → heard m ≡ x → Gave self (messageVerdict (configurationBy (self .config)) (bookOf self) x) xs ys r
         → Did self (Event.message m) xs ys r
     did-heard xs ys r x l e g =
-        did self (Event.message m) xs ys r (self .state) (hearing (configurationBy (self .config)) (bookOf self) (heard m)) l refl
-        (subst (λ (y : Heard). Gave self (hearing (configurationBy (self .config)) (bookOf self) y) xs ys r) (sym e) g) refl
+        did self (Event.message m) xs ys r (self .state) (messageVerdict (configurationBy (self .config)) (bookOf self) (heard m)) l refl
+        (subst (λ (y : Heard). Gave self (messageVerdict (configurationBy (self .config)) (bookOf self) y) xs ys r) (sym e) g) refl
 
     -- which it is, by the code's answer
     heard-as : (y : took.Heard) (x : Heard) → z ≡ y → heardIn m y ≡ some x → heard m ≡ x
@@ -224,26 +224,26 @@ module _ (self : Endpoint) where
 
     -- ---- the event, by the code's answer
     module _ (xs ys : List ℕ) (r : Answer) (l : leastRoom ≤ length xs) where
-      pub did-other : z ≡ is.OtherRequest → Gave self (hearing (configurationBy (self .config)) (bookOf self) hears.otherVersionHeard) xs ys r → Did self (Event.message m) xs ys r
+      pub did-other : z ≡ is.OtherRequest → Gave self (messageVerdict (configurationBy (self .config)) (bookOf self) hears.otherVersionHeard) xs ys r → Did self (Event.message m) xs ys r
       did-other p g = did-heard xs ys r hears.otherVersionHeard l (heard-other p) g
 
-      pub did-bad-request : z ≡ is.BadRequest → Gave self (hearing (configurationBy (self .config)) (bookOf self) (hears.requestHeard none)) xs ys r → Did self (Event.message m) xs ys r
+      pub did-bad-request : z ≡ is.BadRequest → Gave self (messageVerdict (configurationBy (self .config)) (bookOf self) (hears.requestHeard none)) xs ys r → Did self (Event.message m) xs ys r
       did-bad-request p g = did-heard xs ys r (hears.requestHeard none) l (heard-bad-request p) g
 
       pub did-request : (a : Address) (s : Places) → z ≡ is.Request a s
-          → Gave self (hearing (configurationBy (self .config)) (bookOf self) (hears.requestHeard (some (namedBy m a s)))) xs ys r → Did self (Event.message m) xs ys r
+          → Gave self (messageVerdict (configurationBy (self .config)) (bookOf self) (hears.requestHeard (some (namedBy m a s)))) xs ys r → Did self (Event.message m) xs ys r
       did-request a s p g = did-heard xs ys r (hears.requestHeard (some (namedBy m a s))) l (heard-request a s p) g
 
     module _ (xs : List ℕ) (r : Answer) (l : leastRoom ≤ length xs) where
       pub did-unreadable : z ≡ is.Unreadable → Silent self discarded r → Did self (Event.message m) xs xs r
       did-unreadable p g = did-heard xs xs r hears.nothingHeard l (heard-unreadable p) (g xs)
 
-      pub did-bad-accepted : z ≡ is.BadAccepted → Silent self (answering (awaited (bookOf self)) (λ q. failed)) r → Did self (Event.message m) xs xs r
+      pub did-bad-accepted : z ≡ is.BadAccepted → Silent self (ifAwaited (awaited (bookOf self)) (λ q. failed)) r → Did self (Event.message m) xs xs r
       did-bad-accepted p g = did-heard xs xs r (hears.acceptedHeard none) l (heard-bad-accepted p) (g xs)
 
-      pub did-declined : z ≡ is.Declined → Silent self (answering (awaited (bookOf self)) (λ q. failed)) r → Did self (Event.message m) xs xs r
+      pub did-declined : z ≡ is.Declined → Silent self (ifAwaited (awaited (bookOf self)) (λ q. failed)) r → Did self (Event.message m) xs xs r
       did-declined p g = did-heard xs xs r hears.declineHeard l (heard-declined p) (g xs)
 
       pub did-accepted : (a : Address) (s : Places) → z ≡ is.Accepted a s
-          → Silent self (hearing (configurationBy (self .config)) (bookOf self) (hears.acceptedHeard (some (namedBy m a s)))) r → Did self (Event.message m) xs xs r
+          → Silent self (messageVerdict (configurationBy (self .config)) (bookOf self) (hears.acceptedHeard (some (namedBy m a s)))) r → Did self (Event.message m) xs xs r
       did-accepted a s p g = did-heard xs xs r (hears.acceptedHeard (some (namedBy m a s))) l (heard-accepted a s p) (g xs)

@@ -37,7 +37,7 @@ use Rattle.endpoint.specs.declared.Endpoint.{Endpoint}
 use Rattle.endpoint.specs.declared.Answer.{Answer}
 use Rattle.endpoint.specs.declared.Reply.{Reply}
 use Rattle.endpoint.specs.declared.Reply.the-variants.{Refused, Done}
-use Rattle.endpoint.specs.Rule.{Book, Verdict, Event, Given, commanding, confusing, rejecting, judging, taking, answering, hearing, ruled, rule, exchanged, leastRoom}
+use Rattle.endpoint.specs.Rule.{Book, Verdict, Event, Given, commandVerdict, answerConfused, answerRejected, requestVerdict, acceptedVerdict, ifAwaited, messageVerdict, eventVerdict, rule, exchanged, leastRoom}
 use Rattle.endpoint.specs.Step.{bookOf, Gave, Did}
 use Rattle.endpoint.specs.Demand.{replyBy}
 use Rattle.endpoint.specs.Promises.{rightIn, Discards, Takes, Judges, Confuses}
@@ -81,10 +81,10 @@ bearer-changes self e xs ys r did =
     told-by did = ap₂ replyBy (did .reply) (did .out) ∙ told-back (replied (bookOf self) (rule (configurationBy (self .config)) (bookOf self) (record { event = e; room = length xs }))) xs
 
 -- ---- from an event to the rules' verdict
-gave-ruled : (self : Endpoint) (e : Event) (xs ys : List ℕ) (r : Answer) (v : Verdict) → Did self e xs ys r → leastRoom ≤ length xs → ruled (configurationBy (self .config)) (bookOf self) e ≡ v → Gave self v xs ys r
+gave-ruled : (self : Endpoint) (e : Event) (xs ys : List ℕ) (r : Answer) (v : Verdict) → Did self e xs ys r → leastRoom ≤ length xs → eventVerdict (configurationBy (self .config)) (bookOf self) e ≡ v → Gave self v xs ys r
 unfolding rule
 gave-ruled self e xs ys r v did l p =
-    subst (λ (w : Verdict). Gave self w xs ys r) (ap (λ (t : Bool). cond t (refused 4) (ruled (configurationBy (self .config)) (bookOf self) e)) (le-ltb (length xs) leastRoom l) ∙ p) did
+    subst (λ (w : Verdict). Gave self w xs ys r) (ap (λ (t : Bool). cond t (refused 4) (eventVerdict (configurationBy (self .config)) (bookOf self) e)) (le-ltb (length xs) leastRoom l) ∙ p) did
 
 -- ---- demand 2: an Accepted puts its bearer in force exactly when it is right
 heard-accepted : (m : List ℕ) (version : ℕ) → length m ≤ mostRead → headIn m ≡ Typed version kind.Accepted → heard m ≡ hears.acceptedHeard (bearerIn (readMessage m))
@@ -92,31 +92,31 @@ unfolding heard heardBy
 heard-accepted m version l h = rw (le-leb (length m) mostRead l, h)
 
 module _ (c : Configuration) (f : Option Bearer) (q : Stream) where
-  taking-right : (o : Option Bearer) (d : Bearer) → o ≡ some d → rightIn (rightAccepted c f q) o ≡ true → taking c f q o ≡ agreed d
-  taking-right none d e h = absurd (Option·none-ne-some d e)
-  taking-right (some x) d e h = let same : x ≡ d = cc in rw h (ap (λ b. agreed b) same)
+  acceptedVerdict-right : (o : Option Bearer) (d : Bearer) → o ≡ some d → rightIn (rightAccepted c f q) o ≡ true → acceptedVerdict c f q o ≡ agreed d
+  acceptedVerdict-right none d e h = absurd (Option·none-ne-some d e)
+  acceptedVerdict-right (some x) d e h = let same : x ≡ d = cc in rw h (ap (λ b. agreed b) same)
 
-  taking-wrong : (o : Option Bearer) → rightIn (rightAccepted c f q) o ≡ false → taking c f q o ≡ failed
-  taking-wrong none h = refl
-  taking-wrong (some x) h = rw h
+  acceptedVerdict-wrong : (o : Option Bearer) → rightIn (rightAccepted c f q) o ≡ false → acceptedVerdict c f q o ≡ failed
+  acceptedVerdict-wrong none h = refl
+  acceptedVerdict-wrong (some x) h = rw h
 
 -- m is an Accepted of any version, not too long, and comes while our Request q is open, with a buffer that is long enough
 pub accepted-exactly : (self : Endpoint) (q : Stream) (m xs ys : List ℕ) (version : ℕ) (r : Answer) → Did self (Event.message m) xs ys r
     → leastRoom ≤ length xs → length m ≤ mostRead → headIn m ≡ Typed version kind.Accepted → awaited (bookOf self) ≡ some q → Takes self q m xs ys r
 accepted-exactly self q m xs ys version r did room short head awaits =
     record {
-      right = λ d e h. let g = gave (agreed d) (taking-right c (settled (bookOf self)) q (bearerIn (readMessage m)) d e h) in (g .book, g .reply, g .out);
-      wrong = λ h. let g = gave failed (taking-wrong c (settled (bookOf self)) q (bearerIn (readMessage m)) h) in (g .book, g .reply, g .out);
+      right = λ d e h. let g = gave (agreed d) (acceptedVerdict-right c (settled (bookOf self)) q (bearerIn (readMessage m)) d e h) in (g .book, g .reply, g .out);
+      wrong = λ h. let g = gave failed (acceptedVerdict-wrong c (settled (bookOf self)) q (bearerIn (readMessage m)) h) in (g .book, g .reply, g .out);
     }
   where
     c : Configuration
     c = configurationBy (self .config)
 
-    gave : (v : Verdict) → taking c (settled (bookOf self)) q (bearerIn (readMessage m)) ≡ v → Gave self v xs ys r
+    gave : (v : Verdict) → acceptedVerdict c (settled (bookOf self)) q (bearerIn (readMessage m)) ≡ v → Gave self v xs ys r
     gave v p =
         gave-ruled self (Event.message m) xs ys r v did room
-        (ap (hearing c (bookOf self)) (heard-accepted m version short head)
-        ∙ ap (λ (o : Option Stream). answering o (λ x. taking c (settled (bookOf self)) x (bearerIn (readMessage m)))) awaits
+        (ap (messageVerdict c (bookOf self)) (heard-accepted m version short head)
+        ∙ ap (λ (o : Option Stream). ifAwaited o (λ x. acceptedVerdict c (settled (bookOf self)) x (bearerIn (readMessage m)))) awaits
         ∙ p)
 
 discards : (self : Endpoint) (xs ys : List ℕ) (r : Answer) → Gave self discarded xs ys r → Discards self xs ys r
@@ -128,8 +128,8 @@ pub accepted-unawaited : (self : Endpoint) (m xs ys : List ℕ) (version : ℕ) 
 accepted-unawaited self m xs ys version r did room short head unawaited =
     discards self xs ys r
     (gave-ruled self (Event.message m) xs ys r discarded did room
-    (ap (hearing (configurationBy (self .config)) (bookOf self)) (heard-accepted m version short head)
-    ∙ ap (λ (o : Option Stream). answering o (λ x. taking (configurationBy (self .config)) (settled (bookOf self)) x (bearerIn (readMessage m)))) unawaited))
+    (ap (messageVerdict (configurationBy (self .config)) (bookOf self)) (heard-accepted m version short head)
+    ∙ ap (λ (o : Option Stream). ifAwaited o (λ x. acceptedVerdict (configurationBy (self .config)) (settled (bookOf self)) x (bearerIn (readMessage m)))) unawaited))
 
 -- ---- demand 2: a peer's Request is accepted exactly when it is right
 heard-request : (m : List ℕ) → length m ≤ mostRead → headIn m ≡ Typed 1 kind.Request → heard m ≡ hears.requestHeard (bearerIn (readMessage m))
@@ -147,23 +147,23 @@ unfolding rightConfig
 usable self h = and-eq-true-iff (configInside (self .config)) (rightConfiguration (configurationBy (self .config))) .0 h .1
 
 module _ (c : Configuration) (right : rightConfiguration c ≡ true) where
-  rejecting-is : rejecting c ≡ requestWrong (messageText (c .own) writing.rejectedContent)
-  rejecting-is = rw (rejected-octets c right)
+  answerRejected-is : answerRejected c ≡ requestWrong (messageText (c .own) writing.rejectedContent)
+  answerRejected-is = rw (rejected-octets c right)
 
-  confusing-is : confusing c ≡ requestConfused (messageText (c .own) writing.confusedContent)
-  confusing-is = rw (confused-octets c right)
+  answerConfused-is : answerConfused c ≡ requestConfused (messageText (c .own) writing.confusedContent)
+  answerConfused-is = rw (confused-octets c right)
 
   module _ (m : List ℕ) (f : Option Bearer) where
-    judging-right : (d : Bearer) → bearerIn (readMessage m) ≡ some d → rightIn (rightRequest c f) (bearerIn (readMessage m)) ≡ true
-        → judging c f (bearerIn (readMessage m)) ≡ requestRight (granted c d) (messageText (c .own) (writing.acceptedContent (acceptedFor c d)))
-    judging-right d e h =
+    requestVerdict-right : (d : Bearer) → bearerIn (readMessage m) ≡ some d → rightIn (rightRequest c f) (bearerIn (readMessage m)) ≡ true
+        → requestVerdict c f (bearerIn (readMessage m)) ≡ requestRight (granted c d) (messageText (c .own) (writing.acceptedContent (acceptedFor c d)))
+    requestVerdict-right d e h =
         let (k, is) = described-named (readMessage m) d e in
         let t : rightRequest c f d ≡ true = rw e at h in
         rw (e, t, answered-octets c right m k f d is t)
 
-    judging-wrong : (o : Option Bearer) → rightIn (rightRequest c f) o ≡ false → judging c f o ≡ requestWrong (messageText (c .own) writing.rejectedContent)
-    judging-wrong none h = rejecting-is
-    judging-wrong (some d) h = rw h rejecting-is
+    requestVerdict-wrong : (o : Option Bearer) → rightIn (rightRequest c f) o ≡ false → requestVerdict c f o ≡ requestWrong (messageText (c .own) writing.rejectedContent)
+    requestVerdict-wrong none h = answerRejected-is
+    requestVerdict-wrong (some d) h = rw h answerRejected-is
 
 -- m is a Request of version 1, not too long, and comes where Requests are not discarded, with a buffer that is long enough, to an
 -- endpoint whose configuration is not refused
@@ -173,21 +173,21 @@ unfolding configurationBy
 request-exactly self m xs ys r config did room short head heeds =
     record {
       right = λ d e h.
-          let g = gave _ (judging-right c (usable self config) m (settled (bookOf self)) d e h) in
+          let g = gave _ (requestVerdict-right c (usable self config) m (settled (bookOf self)) d e h) in
           (g .book, record { out = g .out; reply = g .reply });
       wrong = λ h.
-          let g = gave _ (judging-wrong c (usable self config) m (settled (bookOf self)) (bearerIn (readMessage m)) h) in
+          let g = gave _ (requestVerdict-wrong c (usable self config) m (settled (bookOf self)) (bearerIn (readMessage m)) h) in
           (g .book, record { out = g .out; reply = g .reply });
     }
   where
     c : Configuration
     c = configurationBy (self .config)
 
-    gave : (v : Verdict) → judging c (settled (bookOf self)) (bearerIn (readMessage m)) ≡ v → Gave self v xs ys r
+    gave : (v : Verdict) → requestVerdict c (settled (bookOf self)) (bearerIn (readMessage m)) ≡ v → Gave self v xs ys r
     gave v p =
         gave-ruled self (Event.message m) xs ys r v did room
-        (ap (hearing c (bookOf self)) (heard-request m short head)
-        ∙ ap (λ (t : Bool). cond t discarded (judging c (settled (bookOf self)) (bearerIn (readMessage m)))) heeds
+        (ap (messageVerdict c (bookOf self)) (heard-request m short head)
+        ∙ ap (λ (t : Bool). cond t discarded (requestVerdict c (settled (bookOf self)) (bearerIn (readMessage m)))) heeds
         ∙ p)
 
 -- one of another version is heard as such
@@ -203,9 +203,9 @@ request-confused self m xs ys version r config did room short head other heeds =
     let c = configurationBy (self .config) in
     let g =
     gave-ruled self (Event.message m) xs ys r (requestConfused (messageText (c .own) writing.confusedContent)) did room
-    (ap (hearing c (bookOf self)) (heard-other m version short head other)
-    ∙ ap (λ (t : Bool). cond t discarded (confusing c)) heeds
-    ∙ confusing-is c (usable self config)) in
+    (ap (messageVerdict c (bookOf self)) (heard-other m version short head other)
+    ∙ ap (λ (t : Bool). cond t discarded (answerConfused c)) heeds
+    ∙ answerConfused-is c (usable self config)) in
     record { endpoint = g .unaltered; out = g .out; reply = g .reply }
 
 -- and any Request is discarded while our set-up is awaited, and at I while our change is
@@ -215,8 +215,8 @@ request-ignored self m xs ys version r did room short head ignored =
     discards self xs ys r
     (gave-ruled self (Event.message m) xs ys r discarded did room
     (by-eq version 1 _
-    (λ e. ap (hearing c (bookOf self)) (heard-request m short (head ∙ ap (λ (v : ℕ). Typed v kind.Request) e)) ∙ ap (λ (t : Bool). cond t discarded (judging c (settled (bookOf self)) (bearerIn (readMessage m)))) ignored)
-    (λ e. ap (hearing c (bookOf self)) (heard-other m version short head e) ∙ ap (λ (t : Bool). cond t discarded (confusing c)) ignored)))
+    (λ e. ap (messageVerdict c (bookOf self)) (heard-request m short (head ∙ ap (λ (v : ℕ). Typed v kind.Request) e)) ∙ ap (λ (t : Bool). cond t discarded (requestVerdict c (settled (bookOf self)) (bearerIn (readMessage m)))) ignored)
+    (λ e. ap (messageVerdict c (bookOf self)) (heard-other m version short head e) ∙ ap (λ (t : Bool). cond t discarded (answerConfused c)) ignored)))
   where
     c : Configuration
     c = configurationBy (self .config)
@@ -251,40 +251,40 @@ request-names m d e =
     go (Typed v kind.Confused) w = absurd (let z : _≡_ {A = ℕ} 0 1 = cc in omega arith)
     go (Typed v kind.Rejected) w = absurd (let z : _≡_ {A = ℕ} 0 1 = cc in omega arith)
 
-answering-answered : (o : Option Stream) (v : Stream → Verdict) → ((q : Stream) → Answered (v q)) → Answered (answering o v)
-answering-answered none v a = tt
-answering-answered (some q) v a = a q
+ifAwaited-answered : (o : Option Stream) (v : Stream → Verdict) → ((q : Stream) → Answered (v q)) → Answered (ifAwaited o v)
+ifAwaited-answered none v a = tt
+ifAwaited-answered (some q) v a = a q
 
 module _ (c : Configuration) (right : rightConfiguration c ≡ true) (m : List ℕ) where
-  judging-answered : (f : Option Bearer) → Answered (judging c f (bearerIn (readMessage m)))
-  judging-answered f =
+  requestVerdict-answered : (f : Option Bearer) → Answered (requestVerdict c f (bearerIn (readMessage m)))
+  requestVerdict-answered f =
       by-bool (rightIn (rightRequest c f) (bearerIn (readMessage m))) _
       (λ h. go (bearerIn (readMessage m)) refl h)
-      (λ h. subst Answered (sym (judging-wrong c right m f (bearerIn (readMessage m)) h)) tt)
+      (λ h. subst Answered (sym (requestVerdict-wrong c right m f (bearerIn (readMessage m)) h)) tt)
     where
-      go : (o : Option Bearer) → bearerIn (readMessage m) ≡ o → rightIn (rightRequest c f) (bearerIn (readMessage m)) ≡ true → Answered (judging c f (bearerIn (readMessage m)))
+      go : (o : Option Bearer) → bearerIn (readMessage m) ≡ o → rightIn (rightRequest c f) (bearerIn (readMessage m)) ≡ true → Answered (requestVerdict c f (bearerIn (readMessage m)))
       go none e h = let z : false ≡ true = rw e at h in absurd (false≢true z)
-      go (some d) e h = subst Answered (sym (judging-right c right m f d e h)) tt
+      go (some d) e h = subst Answered (sym (requestVerdict-right c right m f d e h)) tt
 
-  taking-answered : (f : Option Bearer) (q : Stream) (o : Option Bearer) → Answered (taking c f q o)
-  taking-answered f q none = tt
-  taking-answered f q (some d) = either Answered (rightAccepted c f q d) (agreed d) failed tt tt
+  acceptedVerdict-answered : (f : Option Bearer) (q : Stream) (o : Option Bearer) → Answered (acceptedVerdict c f q o)
+  acceptedVerdict-answered f q none = tt
+  acceptedVerdict-answered f q (some d) = either Answered (rightAccepted c f q d) (agreed d) failed tt tt
 
-  hearing-answered : (k : Book) (h : Heard) → heard m ≡ h → Answered (hearing c k h)
-  hearing-answered k hears.nothingHeard e = tt
-  hearing-answered k hears.otherVersionHeard e = either Answered (ignores k) discarded (confusing c) tt (subst Answered (sym (confusing-is c right)) tt)
-  hearing-answered k (hears.requestHeard d) e =
-      either Answered (ignores k) discarded (judging c (settled k) d) tt
-      (subst (λ (o : Option Bearer). Answered (judging c (settled k) o)) (sym (request-names m d e)) (judging-answered (settled k)))
-  hearing-answered k (hears.acceptedHeard d) e = answering-answered (awaited k) (λ q. taking c (settled k) q d) (λ q. taking-answered (settled k) q d)
-  hearing-answered k hears.declineHeard e = answering-answered (awaited k) (λ q. failed) (λ q. tt)
+  messageVerdict-answered : (k : Book) (h : Heard) → heard m ≡ h → Answered (messageVerdict c k h)
+  messageVerdict-answered k hears.nothingHeard e = tt
+  messageVerdict-answered k hears.otherVersionHeard e = either Answered (ignores k) discarded (answerConfused c) tt (subst Answered (sym (answerConfused-is c right)) tt)
+  messageVerdict-answered k (hears.requestHeard d) e =
+      either Answered (ignores k) discarded (requestVerdict c (settled k) d) tt
+      (subst (λ (o : Option Bearer). Answered (requestVerdict c (settled k) o)) (sym (request-names m d e)) (requestVerdict-answered (settled k)))
+  messageVerdict-answered k (hears.acceptedHeard d) e = ifAwaited-answered (awaited k) (λ q. acceptedVerdict c (settled k) q d) (λ q. acceptedVerdict-answered (settled k) q d)
+  messageVerdict-answered k hears.declineHeard e = ifAwaited-answered (awaited k) (λ q. failed) (λ q. tt)
 
 pub message-answered : (self : Endpoint) (m xs ys : List ℕ) (r : Answer) (n : ℕ) → rightConfig (self .config) ≡ true → Did self (Event.message m) xs ys r → leastRoom ≤ length xs → r .reply ≡ Refused n → ⊥
 message-answered self m xs ys r n config did room e =
     let g = gave-ruled self (Event.message m) xs ys r _ did room refl in
-    subst Answered (refused-is self _ xs ys r n g e) (hearing-answered (configurationBy (self .config)) (usable self config) m (bookOf self) (heard m) refl)
+    subst Answered (refused-is self _ xs ys r n g e) (messageVerdict-answered (configurationBy (self .config)) (usable self config) m (bookOf self) (heard m) refl)
 
 -- such a command writes the octets of its Request, and opens it
-pub commanding-opens : (c : Configuration) → rightConfiguration c ≡ true → (entry payload ptime : ℕ) (q : Stream) → commanded c entry payload ptime ≡ some q
-    → commanding c (commanded c entry payload ptime) ≡ opened q (messageText (c .own) (writing.requestContent q))
-commanding-opens c right entry payload ptime q e = rw (e, commanded-octets c right entry payload ptime q e)
+pub commandVerdict-opens : (c : Configuration) → rightConfiguration c ≡ true → (entry payload ptime : ℕ) (q : Stream) → commanded c entry payload ptime ≡ some q
+    → commandVerdict c (commanded c entry payload ptime) ≡ opened q (messageText (c .own) (writing.requestContent q))
+commandVerdict-opens c right entry payload ptime q e = rw (e, commanded-octets c right entry payload ptime q e)

@@ -33,12 +33,23 @@ abbrev pub seen : Event → List ℕ → List ℕ → Answer → LogLine
 seen x before after r = record { event = record { event = x; room = length before }; reply = replyBy (r .reply) after; bearer = settled (bookOf (r .endpoint)) }
 
 -- The endpoint e, given the events one after another, each with a buffer of its own, shows the lines and becomes f. Each step is
--- what the contract of the event's method says, `Did`: so this speaks of every run of the code. Every method returns whatever it is
--- given, so there is a run through every list of events.
+-- what the contract of the event's method says, `Did`: so this covers every run of the code.
 pub data Runs (e : Endpoint) : List Given → List LogLine → Endpoint → Type 0 where
   begun : Runs e [] [] e
   after : {gs : List Given} {ls : List LogLine} {f : Endpoint} → Runs e gs ls f → (x : Event) (buffer out : List ℕ) (r : Answer) → Did f x buffer out r
       → Runs e (gs ++ (record { event = x; room = length buffer } ∷ [])) (ls ++ (seen x buffer out r ∷ [])) (r .endpoint)
+
+-- Nothing below is claimed of an empty set of runs: every event with every buffer has an answer that meets `Did` (`answer-exists`
+-- in `proofs/RunsExist.antt`), and so there is a run from every endpoint through every list of events (`run-exists`).
+pub record HasAnswer (e : Endpoint) (x : Event) (buffer : List ℕ) : Type 0 where
+  pub out : List ℕ
+  pub answer : Answer
+  pub did : Did e x buffer out answer
+
+pub record HasRun (e : Endpoint) (gs : List Given) : Type 0 where
+  pub lines : List LogLine
+  pub left : Endpoint
+  pub run : Runs e gs lines left
 
 -- e is a fresh endpoint of the configuration c, which is not refused
 pub record Fresh (c : Config) (e : Endpoint) : Type 0 where

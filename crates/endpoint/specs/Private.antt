@@ -8,26 +8,32 @@ use lib.ListN.{length}
 use Rattle.media.specs.declared.Stream.{Stream as Places}
 use Rattle.media.specs.Meaning.{streamBy, streamIn}
 use Rattle.ipbcp.specs.Reading.{mostRead}
+use Rattle.configuration.specs.Meaning.{configurationBy}
 use Rattle.bearer.specs.declared.Request.{Request}
+use Rattle.bearer.specs.Hearing.{Heard}
 use Rattle.bearer.specs.Meaning.{requestInside}
 use Rattle.endpoint.specs.declared.Endpoint.{Endpoint}
 use Rattle.endpoint.specs.declared.Answer.{Answer}
-use Rattle.endpoint.specs.Rule.{Book, Verdict, leastRoom}
+use Rattle.endpoint.specs.Rule.{Book, Verdict, messageVerdict, leastRoom}
 use Rattle.endpoint.specs.Step.{bookOf, Inside, written, Gave}
 
--- r has the configuration of self and the book k, and its texts lie inside where those of self do
+-- r has the configuration of self and the book k, and its texts lie inside if those of self do
 pub record Same (self r : Endpoint) (k : Book) : Type 0 where
   pub config : r .config ≡ self .config
   pub book : bookOf r ≡ k
   pub inside : Inside self → Inside r
 
--- what a verdict does that writes nothing, whatever the buffer
+-- what a verdict that writes nothing does, for every buffer
 abbrev pub Silent : Endpoint → Verdict → Answer → Type 0
 Silent self v r = (xs : List ℕ) → Gave self v xs xs r
 
--- what a verdict does that writes w octets, whatever they are
+-- what a verdict that writes w octets does, whatever octets they are
 abbrev pub Says : Endpoint → (List ℕ → Verdict) → ℕ → Answer → Type 0
 Says self v w r = (o xs : List ℕ) → length o ≡ w → Gave self (v o) xs (written o xs) r
+
+-- what a message that is heard as h does
+abbrev pub Heeds : Endpoint → Heard → List ℕ → List ℕ → Answer → Type 0
+Heeds self h before after r = Gave self (messageVerdict (configurationBy (self .config)) (bookOf self) h) before after r
 
 -- the message m is short enough to be read, and the texts of the stream s lie inside it
 pub record Readable (m : List ℕ) (s : Places) : Type 0 where

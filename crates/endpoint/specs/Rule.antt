@@ -1,5 +1,6 @@
--- Document 01, "One endpoint": what the rules make of an event, by the configuration and the book alone. The book is in `Book` of
--- `book`; what a message is to an endpoint and which Requests and Accepteds are right is in `Hearing` and `Judging` of `bearer`.
+-- Document 01, "One endpoint": the rules, as a verdict on each event, given the configuration and the book alone. Book and verdicts
+-- are in `Book` of `book`; what a message is to an endpoint is in `Hearing` of `bearer`, and what makes a command, a Request or an
+-- Accepted right is in `Judging` there.
 use Prim.Native.Nat.{ℕ}
 use mathlib.Core.Bool.{cond}
 use mathlib.Core.List.{List}
@@ -15,7 +16,7 @@ use Rattle.bearer.specs.Bearer.{Bearer}
 use Rattle.bearer.specs.Hearing.{Heard, nothingHeard, otherVersionHeard, requestHeard, acceptedHeard, declineHeard, heard}
 use Rattle.bearer.specs.Judging.{commanded, rightRequest, granted, acceptedFor, rightAccepted}
 
--- a Request of ours is what its media line and its attributes say
+-- a Request of ours is given by its media line and attributes
 abbrev pub Book : Type 0
 Book = book.Book Bearer Stream
 
@@ -34,86 +35,88 @@ pub record Given : Type 0 where
   pub event : Event
   pub room : ℕ
 
--- A verdict that writes a message: its octets, or number 5 where a field is out of range. No configuration that can be used brings
--- that about, as `Writable` among the laws of `bearer` shows.
-abbrev pub said : Option (List ℕ) → (List ℕ → Verdict) → Verdict
-said none v = refused 5
-said (some o) v = v o
+-- The verdict v on the octets of a message that we write; number 5 if a field of it is out of range, which a valid configuration
+-- rules out (`Writable` among the proofs of `bearer`).
+abbrev pub ifWritable : Option (List ℕ) → (List ℕ → Verdict) → Verdict
+ifWritable none v = refused 5
+ifWritable (some o) v = v o
 
--- ---- commands
--- in the state that it suits, a command writes its Request; number 5 where it has none
-abbrev pub commanding : Configuration → Option Stream → Verdict
-commanding c none = refused 5
-commanding c (some q) = said (messageOctets (c .own) (requestContent q)) (λ o. opened q o)
+-- ---- set-up and change, in the state that they suit: the Request is written, or number 5 if the command has none
+abbrev pub commandVerdict : Configuration → Option Stream → Verdict
+commandVerdict c none = refused 5
+commandVerdict c (some q) = ifWritable (messageOctets (c .own) (requestContent q)) (λ o. opened q o)
 
--- ---- a peer's Request, where it is not discarded; force is the bearer in force
-abbrev pub confusing : Configuration → Verdict
-confusing c = said (messageOctets (c .own) confusedContent) (λ o. requestConfused o)
+-- ---- an Accepted for our open Request q, where `force` is the bearer in force and d the bearer that the Accepted names, if it can
+-- be read: a right one settles its bearer, any other ends the attempt
+abbrev pub acceptedVerdict : Configuration → Option Bearer → Stream → Option Bearer → Verdict
+acceptedVerdict c force q none = failed
+acceptedVerdict c force q (some d) = cond (rightAccepted c force q d) (agreed d) failed
 
-abbrev pub rejecting : Configuration → Verdict
-rejecting c = said (messageOctets (c .own) rejectedContent) (λ o. requestWrong o)
+-- ---- a peer's Request that is not discarded
+abbrev pub answerConfused : Configuration → Verdict
+answerConfused c = ifWritable (messageOctets (c .own) confusedContent) (λ o. requestConfused o)
 
-abbrev pub accepting : Configuration → Bearer → Verdict
-accepting c d = said (messageOctets (c .own) (acceptedContent (acceptedFor c d))) (λ o. requestRight (granted c d) o)
+abbrev pub answerAccepted : Configuration → Bearer → Verdict
+answerAccepted c d = ifWritable (messageOctets (c .own) (acceptedContent (acceptedFor c d))) (λ o. requestRight (granted c d) o)
 
--- right: Accepted. Wrong, or not to be read to its end: Rejected
-abbrev pub judging : Configuration → Option Bearer → Option Bearer → Verdict
-judging c force none = rejecting c
-judging c force (some d) = cond (rightRequest c force d) (accepting c d) (rejecting c)
+abbrev pub answerRejected : Configuration → Verdict
+answerRejected c = ifWritable (messageOctets (c .own) rejectedContent) (λ o. requestWrong o)
 
--- ---- an Accepted for the open Request q: a right one puts its bearer in force, any other ends the attempt
-abbrev pub taking : Configuration → Option Bearer → Stream → Option Bearer → Verdict
-taking c force q none = failed
-taking c force q (some d) = cond (rightAccepted c force q d) (agreed d) failed
+-- one of version 1 is judged, where `force` is the bearer in force and d the bearer that it names, if it can be read
+abbrev pub requestVerdict : Configuration → Option Bearer → Option Bearer → Verdict
+requestVerdict c force none = answerRejected c
+requestVerdict c force (some d) = cond (rightRequest c force d) (answerAccepted c d) (answerRejected c)
 
 -- ---- messages
--- what answers our Request is discarded where none is open
-abbrev pub answering : Option Stream → (Stream → Verdict) → Verdict
-answering none v = discarded
-answering (some q) v = v q
+-- an answer is discarded if no Request of ours is open
+abbrev pub ifAwaited : Option Stream → (Stream → Verdict) → Verdict
+ifAwaited none v = discarded
+ifAwaited (some q) v = v q
 
--- A version 1 Request in awaiting change at R drops our attempt first: it is judged as in up, by the bearer in force, and what
--- becomes of the open Request is the book's (`moved`, `drops`).
-abbrev pub hearing : Configuration → Book → Heard → Verdict
-hearing c k nothingHeard = discarded
-hearing c k otherVersionHeard = cond (ignores k) discarded (confusing c)
-hearing c k (requestHeard d) = cond (ignores k) discarded (judging c (settled k) d)
-hearing c k (acceptedHeard d) = answering (awaited k) (λ q. taking c (settled k) q d)
-hearing c k declineHeard = answering (awaited k) (λ q. failed)
+-- A version 1 Request in awaiting change at R is judged as in up, by the bearer in force: it has cancelled our pending change, which
+-- the book then closes (`moved`, `drops`).
+abbrev pub messageVerdict : Configuration → Book → Heard → Verdict
+messageVerdict c k nothingHeard = discarded
+messageVerdict c k otherVersionHeard = cond (ignores k) discarded (answerConfused c)
+messageVerdict c k (requestHeard d) = cond (ignores k) discarded (requestVerdict c (settled k) d)
+messageVerdict c k (acceptedHeard d) = ifAwaited (awaited k) (λ q. acceptedVerdict c (settled k) q d)
+messageVerdict c k declineHeard = ifAwaited (awaited k) (λ q. failed)
 
--- ---- every event, where the output buffer is long enough: 11 comes before 5
-abbrev pub ruled : Configuration → Book → Event → Verdict
-ruled c idle (setUp entry payload ptime) = commanding c (commanded c entry payload ptime)
-ruled c (awaitSetup q) (setUp entry payload ptime) = refused 11
-ruled c (up s b) (setUp entry payload ptime) = refused 11
-ruled c (awaitChange s b q) (setUp entry payload ptime) = refused 11
-ruled c idle (change entry payload ptime) = refused 11
-ruled c (awaitSetup q) (change entry payload ptime) = refused 11
-ruled c (up s b) (change entry payload ptime) = commanding c (commanded c entry payload ptime)
-ruled c (awaitChange s b q) (change entry payload ptime) = refused 11
-ruled c idle release = refused 11
-ruled c (awaitSetup q) release = released
-ruled c (up s b) release = released
-ruled c (awaitChange s b q) release = released
-ruled c idle t1 = discarded
-ruled c (awaitSetup q) t1 = failed
-ruled c (up s b) t1 = discarded
-ruled c (awaitChange s b q) t1 = discarded
-ruled c idle t2 = discarded
-ruled c (awaitSetup q) t2 = discarded
-ruled c (up s b) t2 = discarded
-ruled c (awaitChange s b q) t2 = failed
-ruled c k (message m) = hearing c k (heard m)
+-- ---- every event
+-- the verdict on an event whose output buffer is long enough; a command that does not suit the state is refused by 11, before 5
+abbrev pub eventVerdict : Configuration → Book → Event → Verdict
+eventVerdict c idle (setUp entry payload ptime) = commandVerdict c (commanded c entry payload ptime)
+eventVerdict c (awaitSetup q) (setUp entry payload ptime) = refused 11
+eventVerdict c (up s b) (setUp entry payload ptime) = refused 11
+eventVerdict c (awaitChange s b q) (setUp entry payload ptime) = refused 11
+eventVerdict c idle (change entry payload ptime) = refused 11
+eventVerdict c (awaitSetup q) (change entry payload ptime) = refused 11
+eventVerdict c (up s b) (change entry payload ptime) = commandVerdict c (commanded c entry payload ptime)
+eventVerdict c (awaitChange s b q) (change entry payload ptime) = refused 11
+eventVerdict c idle release = refused 11
+eventVerdict c (awaitSetup q) release = released
+eventVerdict c (up s b) release = released
+eventVerdict c (awaitChange s b q) release = released
+eventVerdict c idle t1 = discarded
+eventVerdict c (awaitSetup q) t1 = failed
+eventVerdict c (up s b) t1 = discarded
+eventVerdict c (awaitChange s b q) t1 = discarded
+eventVerdict c idle t2 = discarded
+eventVerdict c (awaitSetup q) t2 = discarded
+eventVerdict c (up s b) t2 = discarded
+eventVerdict c (awaitChange s b q) t2 = failed
+eventVerdict c k (message m) = messageVerdict c k (heard m)
 
--- the shortest output buffer that an event can be given
+-- the shortest output buffer that is taken
 abbrev pub leastRoom : ℕ
 leastRoom = 512
 
--- number 4 comes before all else
+-- the verdict on an event: number 4 comes before all else
 unfoldable pub rule : Configuration → Book → Given → Verdict
-rule c k g = cond (ltb (g .room) leastRoom) (refused 4) (ruled c k (g .event))
+rule c k g = cond (ltb (g .room) leastRoom) (refused 4) (eventVerdict c k (g .event))
 
--- ---- the bearer that an exchange by this event puts in force, if it succeeds
+-- ---- the bearer that an event puts in force if its exchange succeeds: of a Request the one that we grant, of an Accepted the one
+-- that it names
 abbrev pub grantedIn : Configuration → Option Bearer → Option Bearer
 grantedIn c none = none
 grantedIn c (some d) = some (granted c d)

@@ -5,7 +5,7 @@ ghost use lib.ListN.{length};
 ghost use Rattle.bearer.specs.Judging.{commanded};
 ghost use Rattle.bearer.specs.Meaning.{requestBy};
 ghost use Rattle.configuration.specs.Meaning.{configurationBy};
-ghost use Rattle.endpoint.specs.Rule.{Event, commanding, leastRoom};
+ghost use Rattle.endpoint.specs.Rule.{Event, commandVerdict, leastRoom};
 ghost use Rattle.endpoint.specs.Step.{Gave, Did};
 ghost use Rattle.endpoint.specs.Private.{Offerable};
 use crate::Answer;
@@ -22,7 +22,7 @@ impl Endpoint {
     // Writes the Request, and opens it.
     fn offer(self, request: Request, out: &mut [u8]) -> Answer
         requires { ⌜ Offerable request (now out) ⌝ }
-        ensures { λ r. ⌜ Gave self (commanding (configurationBy (self .config)) (some (requestBy request))) (now (out .entry)) (now (out .exit)) r ⌝ }
+        ensures { λ r. ⌜ Gave self (commandVerdict (configurationBy (self .config)) (some (requestBy request))) (now (out .entry)) (now (out .exit)) r ⌝ }
     {
         let config = self.config;
         let own = config.own;
@@ -38,7 +38,7 @@ impl Endpoint {
     // A command in the state that it suits.
     fn command(self, entry: u16, payload: u16, ptime: u16, out: &mut [u8]) -> Answer
         requires { ⌜ leastRoom ≤ length (now out) ⌝ }
-        ensures { λ r. ⌜ Gave self (commanding (configurationBy (self .config)) (commanded (configurationBy (self .config)) entry payload ptime)) (now (out .entry)) (now (out .exit)) r ⌝ }
+        ensures { λ r. ⌜ Gave self (commandVerdict (configurationBy (self .config)) (commanded (configurationBy (self .config)) entry payload ptime)) (now (out .entry)) (now (out .exit)) r ⌝ }
     {
         let config = self.config;
         let made = request_for(config, entry, payload, ptime);

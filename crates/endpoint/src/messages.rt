@@ -6,9 +6,9 @@ ghost use Rattle.book.specs.Book.{awaited, Verdict};
 ghost use Rattle.bearer.specs.Hearing as hears;
 ghost use Rattle.bearer.specs.Meaning.{namedBy};
 ghost use Rattle.configuration.specs.Meaning.{configurationBy};
-ghost use Rattle.endpoint.specs.Rule.{Event, answering, confusing, rejecting, accepting, hearing, leastRoom};
+ghost use Rattle.endpoint.specs.Rule.{Event, ifAwaited, answerConfused, answerRejected, answerAccepted, messageVerdict, leastRoom};
 ghost use Rattle.endpoint.specs.Step.{bookOf, Gave, Did};
-ghost use Rattle.endpoint.specs.Private.{Silent, Readable, Answerable};
+ghost use Rattle.endpoint.specs.Private.{Silent, Heeds, Readable, Answerable};
 use crate::Answer;
 use crate::Endpoint;
 use crate::LEAST_ROOM;
@@ -32,7 +32,7 @@ impl Endpoint {
     // Answers with a Confused.
     fn confuse(self, out: &mut [u8]) -> Answer
         requires { ⌜ leastRoom ≤ length (now out) ⌝ }
-        ensures { λ r. ⌜ Gave self (confusing (configurationBy (self .config))) (now (out .entry)) (now (out .exit)) r ⌝ }
+        ensures { λ r. ⌜ Gave self (answerConfused (configurationBy (self .config))) (now (out .entry)) (now (out .exit)) r ⌝ }
     {
         let config = self.config;
         let own = config.own;
@@ -46,7 +46,7 @@ impl Endpoint {
     // Answers with a Rejected.
     fn reject(self, out: &mut [u8]) -> Answer
         requires { ⌜ leastRoom ≤ length (now out) ⌝ }
-        ensures { λ r. ⌜ Gave self (rejecting (configurationBy (self .config))) (now (out .entry)) (now (out .exit)) r ⌝ }
+        ensures { λ r. ⌜ Gave self (answerRejected (configurationBy (self .config))) (now (out .entry)) (now (out .exit)) r ⌝ }
     {
         let config = self.config;
         let own = config.own;
@@ -60,7 +60,7 @@ impl Endpoint {
     // Answers a right Request with an Accepted: own port, the packet time moved into range, all else copied from m.
     fn accept(self, address: Address, s: Stream, m: &[u8], out: &mut [u8]) -> Answer
         requires { ⌜ Answerable (now m) s (now out) ⌝ }
-        ensures { λ r. ⌜ Gave self (accepting (configurationBy (self .config)) (namedBy (now (m .entry)) address s)) (now (out .entry)) (now (out .exit)) r ⌝ }
+        ensures { λ r. ⌜ Gave self (answerAccepted (configurationBy (self .config)) (namedBy (now (m .entry)) address s)) (now (out .entry)) (now (out .exit)) r ⌝ }
     {
         let config = self.config;
         let own = config.own;
@@ -77,7 +77,7 @@ impl Endpoint {
     // A Request of another version.
     fn hear_other(self, out: &mut [u8]) -> Answer
         requires { ⌜ leastRoom ≤ length (now out) ⌝ }
-        ensures { λ r. ⌜ Gave self (hearing (configurationBy (self .config)) (bookOf self) hears.otherVersionHeard) (now (out .entry)) (now (out .exit)) r ⌝ }
+        ensures { λ r. ⌜ Heeds self hears.otherVersionHeard (now (out .entry)) (now (out .exit)) r ⌝ }
     {
         let state = self.state;
         let side = self.side;
@@ -90,7 +90,7 @@ impl Endpoint {
     // A Request that can't be read to its end.
     fn hear_bad(self, out: &mut [u8]) -> Answer
         requires { ⌜ leastRoom ≤ length (now out) ⌝ }
-        ensures { λ r. ⌜ Gave self (hearing (configurationBy (self .config)) (bookOf self) (hears.requestHeard none)) (now (out .entry)) (now (out .exit)) r ⌝ }
+        ensures { λ r. ⌜ Heeds self (hears.requestHeard none) (now (out .entry)) (now (out .exit)) r ⌝ }
     {
         let state = self.state;
         let side = self.side;
@@ -103,7 +103,7 @@ impl Endpoint {
     // A Request with this address and stream, whose texts are in m.
     fn hear_request(self, address: Address, s: Stream, m: &[u8], out: &mut [u8]) -> Answer
         requires { ⌜ Answerable (now m) s (now out) ⌝ }
-        ensures { λ r. ⌜ Gave self (hearing (configurationBy (self .config)) (bookOf self) (hears.requestHeard (some (namedBy (now (m .entry)) address s)))) (now (out .entry)) (now (out .exit)) r ⌝ }
+        ensures { λ r. ⌜ Heeds self (hears.requestHeard (some (namedBy (now (m .entry)) address s))) (now (out .entry)) (now (out .exit)) r ⌝ }
     {
         let state = self.state;
         let side = self.side;
@@ -121,7 +121,7 @@ impl Endpoint {
     // An Accepted with this address and stream, whose texts are in m.
     fn hear_accepted(self, address: Address, s: Stream, m: &[u8]) -> Answer
         requires { ⌜ Readable (now m) s ⌝ }
-        ensures { λ r. ⌜ Silent self (hearing (configurationBy (self .config)) (bookOf self) (hears.acceptedHeard (some (namedBy (now (m .entry)) address s)))) r ⌝ }
+        ensures { λ r. ⌜ Silent self (messageVerdict (configurationBy (self .config)) (bookOf self) (hears.acceptedHeard (some (namedBy (now (m .entry)) address s)))) r ⌝ }
     {
         let state = self.state;
         if awaits(state) {
@@ -138,7 +138,7 @@ impl Endpoint {
 
     // What ends an attempt of ours, if there is one.
     fn hear_declined(self) -> Answer
-        ensures { λ r. ⌜ Silent self (answering (awaited (bookOf self)) (λ q. Verdict.failed)) r ⌝ }
+        ensures { λ r. ⌜ Silent self (ifAwaited (awaited (bookOf self)) (λ q. Verdict.failed)) r ⌝ }
     {
         let state = self.state;
         if awaits(state) {

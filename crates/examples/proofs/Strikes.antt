@@ -23,7 +23,7 @@ use Rattle.bearer.specs.Bearer.{Bearer}
 use Rattle.bearer.specs.Hearing as hears
 use Rattle.bearer.specs.Hearing.{Heard}
 use Rattle.bearer.specs.Judging.{audio, rtpAvp, sameFamily, sameAddress, offered, commanded, unmoved, rightStream, rightRequest, nearest, restated, granted, acceptedFor, sameOffer, sameHost, rightAccepted}
-use Rattle.endpoint.specs.Rule.{Book, Verdict, Event, setUp, change, release, t1, t2, hearing, ruled}
+use Rattle.endpoint.specs.Rule.{Book, Verdict, Event, setUp, change, release, t1, t2, messageVerdict, eventVerdict}
 
 -- document 01's configuration, with a named codec more
 abbrev config : Configuration
@@ -43,8 +43,8 @@ data Heard-event : Type 0 where
   hear : Heard → Heard-event
 
 abbrev verdict : Book → Heard-event → Verdict
-verdict k (given e) = ruled config k e
-verdict k (hear h) = hearing config k h
+verdict k (given e) = eventVerdict config k e
+verdict k (hear h) = messageVerdict config k h
 
 abbrev left : List Heard-event → List Heard-event
 left es = eventsOf (keptOf verdict es)

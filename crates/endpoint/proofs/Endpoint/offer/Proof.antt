@@ -1,7 +1,7 @@
 -- `Endpoint::offer` meets its contract: the writer's octets are the Request's, or it refuses by 5.
 -- Assumes nothing.
 use borrow.Author.Needs.{needs}
-use Rattle.endpoint.proofs.EventLaws.{said-octets, said-refused, offered-content}
+use Rattle.endpoint.proofs.EventLaws.{ifWritable-octets, ifWritable-refused, offered-content}
 use Rattle.endpoint.proofs.Endpoint.offer.Statement.{statement}
 use Rattle.endpoint.proofs.Endpoint.offer.Tie as tie
 
@@ -28,14 +28,14 @@ same-length c = search needs
 
 returns : tie.Need-returns
 unfolding Rattle.configuration.specs.Meaning.configurationBy
-returns c = search (said-octets, said-refused, offered-content, needs)
+returns c = search (ifWritable-octets, ifWritable-refused, offered-content, needs)
 
 same-length-2 : tie.Need-same-length-2
 same-length-2 c = search needs
 
 returns-2 : tie.Need-returns-2
 unfolding Rattle.configuration.specs.Meaning.configurationBy
-returns-2 c = search (said-octets, said-refused, offered-content, needs)
+returns-2 c = search (ifWritable-octets, ifWritable-refused, offered-content, needs)
 
 pub offer-spec : {M : Type 1} → statement M
 offer-spec =

@@ -1,7 +1,7 @@
 -- `Endpoint::reject` meets its contract: the writer's octets are the Rejected's, or it refuses by 5.
 -- Assumes nothing.
 use borrow.Author.Needs.{needs}
-use Rattle.endpoint.proofs.EventLaws.{said-octets, said-refused}
+use Rattle.endpoint.proofs.EventLaws.{ifWritable-octets, ifWritable-refused}
 use Rattle.endpoint.proofs.Endpoint.reject.Statement.{statement}
 use Rattle.endpoint.proofs.Endpoint.reject.Tie as tie
 
@@ -28,14 +28,14 @@ same-length c = search needs
 
 returns : tie.Need-returns
 unfolding Rattle.configuration.specs.Meaning.configurationBy Rattle.ipbcp.specs.Meaning.contentIn
-returns c = search (said-octets, said-refused, needs)
+returns c = search (ifWritable-octets, ifWritable-refused, needs)
 
 same-length-2 : tie.Need-same-length-2
 same-length-2 c = search needs
 
 returns-2 : tie.Need-returns-2
 unfolding Rattle.configuration.specs.Meaning.configurationBy Rattle.ipbcp.specs.Meaning.contentIn
-returns-2 c = search (said-octets, said-refused, needs)
+returns-2 c = search (ifWritable-octets, ifWritable-refused, needs)
 
 pub reject-spec : {M : Type 1} → statement M
 reject-spec =
