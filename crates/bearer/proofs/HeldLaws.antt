@@ -45,7 +45,7 @@ pub restated-by : (m : List ℕ) (s : Places) (t : Stream) (port ptime : ℕ) �
 unfolding streamIn streamInside streamBy restated
 restated-by m s t port ptime h = rw (streamIn-by m s t h, streamIn-inside m s t h)
 
--- ---- texts of m, where z stands behind it
+-- ---- texts of m, with z after it
 module _ (m z : List ℕ) where
   text-front : (p : Span) → inside m p ≡ true → textOf (m ++ z) p ≡ textOf m p
   unfolding textOf

@@ -1,5 +1,5 @@
--- What an endpoint with a right configuration has to write can be written: the own address is that of one host, every field is in
--- range, and no message for audio over RTP/AVP is too long. So its messages are refused by no number.
+-- What an endpoint with a valid configuration has to write can be written: its own address is unicast, every field is in range, and no
+-- message for audio over RTP/AVP is too long. So writing it is never refused.
 -- Assumes nothing.
 use Prim.Native.Nat.{ℕ, zero, suc, _+_, _≤_, _^_}
 use mathlib.Core.Path.{_≡_, refl, sym, _∙_, ap, subst}

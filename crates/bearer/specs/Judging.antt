@@ -1,5 +1,5 @@
--- Document 01, "One endpoint": which commands, Requests and Accepteds are right, the bearer that is then in force, and what is
--- written. A Request of ours is what its media line and its attributes say: a stream.
+-- Document 01, "One endpoint": which commands, Requests and Accepteds are right, the bearer that they put in force, and what is
+-- written. A Request of ours is given by its media line and attributes: a stream. `force` is the bearer in force, if there is one.
 use Prim.Native.Nat.{ℕ}
 use mathlib.Core.List.{List, [], _∷_}
 use mathlib.Core.Bool.{Bool, true, false, _&&_, cond}
@@ -33,7 +33,7 @@ sameAddress (V6 h l) (V4 n) = false
 sameAddress (V6 h l) (V6 i m) = eqb h i && eqb l m
 
 -- ---- commands
--- the Request of a command: audio, own port, RTP/AVP, the payload and the packet time, and the name of a named entry as rtpmap
+-- the Request for codec entry k: audio, own port, RTP/AVP, this payload and packet time, and the name of a named entry as rtpmap
 unfoldable pub offered : Configuration → Codec → ℕ → ℕ → Stream
 offered c k payload ptime = record {
   media = audio;
@@ -45,14 +45,14 @@ offered c k payload ptime = record {
   ptime = ptime;
 }
 
--- a command names a codec entry, a payload that suits it, and a packet time in range or 0 for none; else there is no Request
+-- a command names a codec entry, a payload that suits it, and a packet time in range or 0 for none; otherwise it has no Request
 unfoldable pub commanded : Configuration → ℕ → ℕ → ℕ → Option Stream
 commanded c entry payload ptime =
     Option·elim (entryIn (c .codecs) entry) none
     (λ k. cond (suits k payload && ptimeNoneOrInRange c ptime) (some (offered c k payload ptime)) none)
 
 -- ---- a peer's Request
--- the peer's address and port are as in force, where a bearer is
+-- if a bearer is in force, the peer's address and port are the same
 unfoldable pub unmoved : Option Bearer → Bearer → Bool
 unmoved none d = true
 unmoved (some b) d = sameAddress (b .address) (d .address) && eqb (b .stream .port) (d .stream .port)
@@ -61,11 +61,11 @@ unmoved (some b) d = sameAddress (b .address) (d .address) && eqb (b .stream .po
 unfoldable pub rightStream : Configuration → Stream → Bool
 rightStream c s = same audio (s .media) && (same rtpAvp (s .transport) && namedIn (c .codecs) (s .payload) (s .rtpmap))
 
--- family ours, media, transport and payload right, and what is in force unmoved
+-- the Request that names d: family ours, media, transport and payload right, address and port as in force
 unfoldable pub rightRequest : Configuration → Option Bearer → Bearer → Bool
 rightRequest c force d = sameFamily (c .own) (d .address) && (rightStream c (d .stream) && unmoved force d)
 
--- a packet time moved to the nearest value in range; none stays none
+-- a packet time moved to the nearest value in range; 0, for none, stays 0
 unfoldable pub nearest : Configuration → ℕ → ℕ
 nearest c n = cond (eqb n 0) 0 (cond (ltb n (c .least)) (c .least) (cond (ltb (c .most) n) (c .most) n))
 
@@ -81,26 +81,27 @@ restated port ptime s = record {
   ptime = ptime;
 }
 
--- the bearer that a right Request puts in force: address and port are the peer's, all else is that of our Accepted
+-- the bearer that a right Request puts in force: address and port are the peer's, the rest is that of our Accepted
 unfoldable pub granted : Configuration → Bearer → Bearer
 granted c d = record { address = d .address; stream = restated (d .stream .port) (nearest c (d .stream .ptime)) (d .stream) }
 
--- our Accepted for it, with own port
+-- our Accepted for such a Request, with own port
 unfoldable pub acceptedFor : Configuration → Bearer → Stream
 acceptedFor c d = restated (c .port) (nearest c (d .stream .ptime)) (d .stream)
 
 -- ---- an Accepted for our Request q
--- media, transport, payload and rtpmap as in the Request, where no rtpmap is an empty one
+-- media, transport, payload and rtpmap as in the Request; an rtpmap that is absent is empty here
 unfoldable pub sameOffer : Stream → Stream → Bool
 sameOffer q s =
     same (q .media) (s .media)
     && (same (q .transport) (s .transport) && (eqb (q .payload) (s .payload) && same (q .rtpmap) (s .rtpmap)))
 
--- for a change, the peer's address as in force; its port may move
+-- for a change, the peer's address is as in force; its port may differ
 unfoldable pub sameHost : Option Bearer → Bearer → Bool
 sameHost none d = true
 sameHost (some b) d = sameAddress (b .address) (d .address)
 
+-- the Accepted that names d: family ours, all as in the Request, packet time absent or in range, address as in force
 unfoldable pub rightAccepted : Configuration → Option Bearer → Stream → Bearer → Bool
 rightAccepted c force q d =
     sameFamily (c .own) (d .address)

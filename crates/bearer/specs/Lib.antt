@@ -1,5 +1,5 @@
--- What the contracts of the endpoint speak of: `Bearer` says what a Request and a bearer are, `Hearing` what a message is to an
--- endpoint, `Judging` which of them are right; `Meaning` says what the code's structs and enums stand for.
+-- The definitions that the endpoint's contracts use: `Bearer` is what a bearer is, `Hearing` what a message is to an endpoint,
+-- `Judging` which commands and messages are right; `Meaning` says what the code's structs and enums stand for.
 pub mod Bearer
 pub mod Hearing
 pub mod Judging

@@ -1,5 +1,5 @@
--- What the structs and enums of this crate stand for: their streams have their texts in the array beside them, those of a
--- message in the message.
+-- What the structs and enums of this crate stand for. The texts of a stream are in the array beside it, those of a message in the
+-- message.
 use Prim.Native.Nat.{ℕ, _+_}
 use mathlib.Core.List.{List}
 use mathlib.Core.Bool.{Bool, true, false}
@@ -19,7 +19,7 @@ use Rattle.bearer.specs.declared.Heard.the-variants as heard
 use Rattle.bearer.specs.Bearer.{Bearer}
 use Rattle.bearer.specs.Hearing.{Heard, nothingHeard, otherVersionHeard, requestHeard, acceptedHeard, declineHeard}
 
--- room for the two words of a Request of ours and the name of a codec
+-- room for `audio`, `RTP/AVP` and an encoding name
 abbrev pub mostOffered : ℕ
 mostOffered = 12 + mostName
 
@@ -40,6 +40,7 @@ bearerInside b = streamInside (b .text) (b .stream)
 unfoldable pub namedBy : List ℕ → Address → Places → Bearer
 namedBy m a s = record { address = a; stream = streamBy m s }
 
+-- what the code's answer to the message m says; none if a text goes past the end of m
 unfoldable pub heardIn : List ℕ → answer.Heard → Option Heard
 heardIn m heard.Unreadable = some nothingHeard
 heardIn m heard.OtherRequest = some otherVersionHeard
@@ -49,11 +50,11 @@ heardIn m heard.BadAccepted = some (acceptedHeard none)
 heardIn m (heard.Accepted a s) = Option·map (λ (t : Stream). acceptedHeard (some (record { address = a; stream = t }))) (streamIn m s)
 heardIn m heard.Declined = some declineHeard
 
--- a bearer with the octets of m, as far as there is room, and zeros behind them
+-- a bearer with the octets of m, as far as there is room, and zeros after them
 abbrev pub bearerAs : Address → Places → List ℕ → held.Bearer
 bearerAs a s m = record { address = a; stream = s; text = appended (replicate mostRead 0) 0 m }
 
--- the bearer in force, where one is
+-- the bearer in force, if there is one
 abbrev pub bearerIf : Bool → Bearer → Option Bearer
 bearerIf true b = some b
 bearerIf false b = none

@@ -1,5 +1,5 @@
-// What a set-up or a change is about: our open Request, and the bearer in force. Both hold a media line whose texts stand in an
-// array beside it.
+// Our open Request, the bearer in force, and what a message is to an endpoint. A Request and a bearer each hold a media line, with
+// its texts in an array beside it.
 ghost use mathlib.Core.Path.{_≡_};
 ghost use Rattle.bearer.specs.Meaning.{bearerAs, placesAs};
 use address::Address;
@@ -26,7 +26,7 @@ pub struct Bearer {
 
 // What a message is to an endpoint. The texts of a stream are places in the message.
 pub enum Heard {
-    // Nothing that it can use.
+    // Number 8 or 9.
     Unreadable,
     // A Request of another version.
     OtherRequest,
@@ -40,7 +40,7 @@ pub enum Heard {
     Declined,
 }
 
-// The bearer that the message m names, whose stream has its texts in m.
+// The bearer of the message m: the stream has its texts in m, which is copied.
 pub fn hold(address: Address, stream: Stream, m: &[u8]) -> Bearer
     ensures { λ r. ⌜ r ≡ bearerAs address stream (now (m .entry)) ⌝ }
 {

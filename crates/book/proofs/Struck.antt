@@ -57,7 +57,7 @@ module _ {Bearer Request Event : Type 0} (rule : Book Bearer Request → Event �
   abbrev lineBy : Book Bearer Request → Event → Verdict Bearer Request → LogLine Bearer Event
   lineBy k e v = record { event = e; reply = replied k v; bearer = settled (moved k v) }
 
-  -- one event more, whose line is l up to a change that it dropped
+  -- one event more, whose line is l but for `dropped`
   replays-more : (ls : List (LogLine Bearer Event)) (k : Book Bearer Request) (l : LogLine Bearer Event) (v : Verdict Bearer Request)
       → rule k (l .event) ≡ v → lineBy k (l .event) v ≡ undropped l → Replays ls k → Replays (ls ++ (l ∷ [])) (moved k v)
   unfolding logOf
@@ -127,7 +127,7 @@ module _ {Bearer Request Event : Type 0} (rule : Book Bearer Request → Event �
         let r′ = replays-more before (up s a) (lineBy (awaitChange s a p) e (requestRight b o)) (requestRight b o) (laws .accepted-change s a p e b o h) refl t in (r′, r′)
     holds-more k before kept e (requestWrong o) h (r, t) = (t, closed-same k before before kept t)
 
-    -- the bearer in force after an event, by what it was answered
+    -- the bearer in force after an event, by the reply to it
     pub held-more : (k : Book Bearer Request) (e : Event) (v : Verdict Bearer Request) → rule k e ≡ v
         → settled (moved k v) ≡ inForceBy (replied k v) (settled k) (exchanged e)
     held-more k e (refused n) h = refl

@@ -1,6 +1,6 @@
--- Document 01, "Failed attempts": the book, what it holds, how each event moves it, and what the event is answered. It is stated
--- over any type of bearer and of Request. What the rules of "One endpoint" make of an event is a verdict, one for each line of
--- that section; the move and the answer are functions of book and verdict.
+-- Document 01, "Failed attempts": the book, what it holds, how each event moves it, and the reply to the event, for any type of bearer
+-- and of Request. The rules of "One endpoint" give each event a verdict, one for each line of "Failed attempts"; the move and the
+-- reply follow from book and verdict.
 use Prim.Native.Nat.{ℕ}
 use mathlib.Core.Bool.{Bool, true, false}
 use mathlib.Core.List.{List, []}
@@ -21,7 +21,7 @@ pub data Book (Bearer Request : Type 0) : Type 0 where
   up : Side → Bearer → Book Bearer Request
   awaitChange : Side → Bearer → Request → Book Bearer Request
 
--- what the rules make of an event
+-- the verdict of the rules on an event
 pub data Verdict (Bearer Request : Type 0) : Type 0 where
   -- refusal number n
   refused : ℕ → Verdict Bearer Request
@@ -40,8 +40,8 @@ pub data Verdict (Bearer Request : Type 0) : Type 0 where
   -- a Request judged wrong, and the Rejected written
   requestWrong : List ℕ → Verdict Bearer Request
 
--- what an event is answered: a refusal's number and nothing else; or the state after it, the notice, the octets written
--- and whether it dropped our own change
+-- the reply to an event: a refusal's number and nothing else; or the state after it, the notice, the octets written, and whether it
+-- cancelled our pending change (`dropped`)
 pub data Reply : Type 0 where
   refusal : ℕ → Reply
   done : State → Notice → List ℕ → Bool → Reply
@@ -89,14 +89,14 @@ module _ {Bearer Request : Type 0} where
   opening q (up s b) = awaitChange s b q
   opening q (awaitChange s b p) = awaitChange s b q
 
-  -- b becomes the bearer in force, and no Request is open. From idle, by a peer's Request, we are R
+  -- b becomes the bearer in force, and no Request is open; after a set-up by the peer's Request, in idle, we are R
   abbrev pub settling : Bearer → Book Bearer Request → Book Bearer Request
   settling b idle = up R b
   settling b (awaitSetup q) = up I b
   settling b (up s a) = up s b
   settling b (awaitChange s a q) = up s b
 
-  -- how a verdict moves the book, line by line
+  -- how a verdict moves the book
   abbrev pub moved : Book Bearer Request → Verdict Bearer Request → Book Bearer Request
   moved k (refused n) = k
   moved k discarded = k
@@ -108,21 +108,21 @@ module _ {Bearer Request : Type 0} where
   moved k (requestRight b o) = settling b k
   moved k (requestWrong o) = closed k
 
-  -- the first where no bearer is in force, the second where one is
+  -- the first value if no bearer is in force, the second if one is
   abbrev pub byBearer : {A : Type 0} → Book Bearer Request → A → A → A
   byBearer idle m n = m
   byBearer (awaitSetup q) m n = m
   byBearer (up s b) m n = n
   byBearer (awaitChange s b q) m n = n
 
-  -- whether a Request that is judged drops our own change; at I none is judged while a change is awaited (`ignores`)
+  -- whether a peer's Request that is judged cancels our pending change; at I none is judged while a change is awaited (`ignores`)
   abbrev pub drops : Book Bearer Request → Bool
   drops idle = false
   drops (awaitSetup q) = false
   drops (up s b) = false
   drops (awaitChange s b q) = true
 
-  -- what an event is answered that finds the book k and is given the verdict
+  -- the reply to an event that finds the book k and is given this verdict
   abbrev pub replied : Book Bearer Request → Verdict Bearer Request → Reply
   replied k (refused n) = refusal n
   replied k discarded = done (stateOf k) Notice.Discarded [] false

@@ -1,4 +1,4 @@
--- Laws of which configurations can be used: a loop's next element and those that are left decide, and one test that fails decides alone.
+-- Laws of valid configurations: in a loop the next element and the rest decide; of several tests, one that fails decides alone.
 -- Assumes nothing.
 use Prim.Native.Nat.{ℕ, _+_, _≤_, _<_}
 use mathlib.Core.Path.{_≡_, refl, sym}
@@ -47,7 +47,7 @@ and-swap false b p q = refl
 and-swap true false p q = sym (and-false p)
 and-swap true true p q = refl
 
--- the first entry, and those behind it
+-- the first entry, and those after it
 first-decides : (k : Place) (ks : List Place) (rs : List Codec)
     → (allFormatsInside (k ∷ ks) && allRight (codecBy k ∷ rs)) ≡ ((formatInside (k .format) && rightCodec (codecBy k)) && (allFormatsInside ks && allRight rs))
 unfolding allFormatsInside allRight

@@ -1,4 +1,4 @@
--- Laws of a configuration's entries: they are as many as its count says and its array holds, and the one at a position is the array's there.
+-- Laws of a configuration's entries: their number is the count, up to the array's length, and the entry at a position is the array's.
 -- Assumes nothing.
 use Prim.Native.Nat.{ℕ, zero, suc, _+_, _-_, _≤_, _<_, min}
 use mathlib.Core.Path.{_≡_, refl, sym, ap, _∙_}
@@ -87,7 +87,7 @@ getD-any [] i d e h = absurd (omega arith)
 getD-any (x ∷ xs) zero d e h = refl
 getD-any (x ∷ xs) (suc i) d e h = getD-any xs i d e (omega arith)
 
--- k is the entry that is handed back
+-- k is the entry that is returned
 module _ (c : Config) (n : ℕ) where
   pub entry-zero : (k : Place) → k ≡ blankCodec → n < 1 → FoundAt c n (record { known = false; codec = k })
   unfolding entryIn

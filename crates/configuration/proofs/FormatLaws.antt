@@ -1,4 +1,4 @@
--- Laws of a codec entry by its format: the format says which clause of a definition holds, and a name's octets are those at the front of its array.
+-- Laws of a codec entry by its format: the format selects the clause of a definition, and a name is the front of its array.
 -- Assumes nothing.
 use Prim.Native.Nat.{ℕ, _≤_, _<_}
 use mathlib.Core.Path.{_≡_}

@@ -1,5 +1,5 @@
--- Document 01, "One endpoint", its first paragraph: an endpoint's configuration, which of them can be used (the others are
--- refused by 12), and which codec a command or a message names.
+-- Document 01, "One endpoint", first paragraph: an endpoint's configuration, when it is valid (otherwise it is refused by 12), and
+-- which codec a command or a message names.
 use Prim.Native.Nat.{ℕ, zero, suc}
 use mathlib.Core.List.{List, [], _∷_}
 use mathlib.Core.Bool.{Bool, true, false, _&&_, _||_}
@@ -26,11 +26,11 @@ pub record Configuration : Type 0 where
   pub t2 : ℕ
   pub codecs : List Codec
 
--- n is a to b
+-- n is from a to b
 abbrev pub between : ℕ → ℕ → ℕ → Bool
 between a b n = leb a n && leb n b
 
--- ---- which configurations can be used
+-- ---- valid configurations
 -- each octet is 33 to 126
 unfoldable pub allVisible : List ℕ → Bool
 allVisible [] = true
@@ -48,7 +48,7 @@ unfoldable pub allRight : List Codec → Bool
 allRight [] = true
 allRight (k ∷ ks) = rightCodec k && allRight ks
 
--- least and most are 1 to 255, least not above most
+-- packet times: least and most are 1 to 255, least not above most
 unfoldable pub rightTimes : ℕ → ℕ → Bool
 rightTimes least most = leb 1 least && (leb least most && leb most 255)
 
@@ -59,7 +59,7 @@ mostCodecs = 8
 unfoldable pub rightCodecs : List Codec → Bool
 rightCodecs ks = between 1 mostCodecs (length ks) && allRight ks
 
--- all but the codecs: the own address is that of one host, and the port is not 0
+-- all but the codecs: own address unicast, port not 0, packet times, T1 and T2
 unfoldable pub rightGeneral : Configuration → Bool
 rightGeneral c =
     isUnicast (c .own)
@@ -81,7 +81,7 @@ unfoldable pub suits : Codec → ℕ → Bool
 suits (fixed n) payload = eqb payload n
 suits (named t) payload = between 96 127 payload
 
--- the text of the rtpmap line that goes with the entry; none is empty
+-- the rtpmap text that goes with the entry; empty for none
 unfoldable pub nameOf : Codec → List ℕ
 nameOf (fixed n) = []
 nameOf (named t) = t
@@ -92,7 +92,7 @@ unfoldable pub names : Codec → ℕ → List ℕ → Bool
 names (fixed n) payload text = eqb payload n
 names (named t) payload text = leb 96 payload && same t text
 
--- they name one of the entries
+-- payload and rtpmap text name one of the entries
 unfoldable pub namedIn : List Codec → ℕ → List ℕ → Bool
 namedIn [] payload text = false
 namedIn (k ∷ ks) payload text = names k payload text || namedIn ks payload text
@@ -101,6 +101,6 @@ namedIn (k ∷ ks) payload text = names k payload text || namedIn ks payload tex
 abbrev pub ptimeInRange : Configuration → ℕ → Bool
 ptimeInRange c n = between (c .least) (c .most) n
 
--- or none, which is 0
+-- the same, or 0 for none
 unfoldable pub ptimeNoneOrInRange : Configuration → ℕ → Bool
 ptimeNoneOrInRange c n = eqb n 0 || ptimeInRange c n

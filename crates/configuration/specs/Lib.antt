@@ -1,5 +1,5 @@
--- What the contracts of this crate speak of: `Configuration` is document 01's, `Meaning` says what the code's structs stand for,
--- `Steps` is for private functions.
+-- The definitions that the contracts of this crate use: `Configuration` is document 01's, `Meaning` says what the code's structs
+-- stand for, `Private` is for functions that are not public.
 pub mod Configuration
 pub mod Meaning
 pub mod Private

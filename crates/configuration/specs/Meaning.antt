@@ -1,5 +1,5 @@
--- What the structs of this crate stand for. A count or a length that goes past its array stands for all of the array, and such
--- a configuration can't be used.
+-- What the structs of this crate stand for. A count or a length that goes past its array stands for the whole array; such a
+-- configuration is refused.
 use Prim.Native.Nat.{ℕ, _-_}
 use mathlib.Core.Path.{_≡_}
 use mathlib.Core.List.{List, [], _∷_, map}

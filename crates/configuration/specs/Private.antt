@@ -1,4 +1,4 @@
--- What a private function ensures, with the bound that its callers need.
+-- Private: what the functions of this crate that are not public promise.
 use Prim.Native.Nat.{ℕ, _≤_}
 use mathlib.Core.Path.{_≡_}
 use lib.ListN.{length}
@@ -6,7 +6,7 @@ use Rattle.configuration.specs.declared.Config.{Config}
 use Rattle.configuration.specs.Configuration.{mostCodecs}
 use Rattle.configuration.specs.Meaning.{codecsBy}
 
--- r is how many entries there are; the bound is the array's, and is here for callers
+-- r is how many entries there are; the bound is the array's, stated for the callers
 pub record EntryCount (c : Config) (r : ℕ) : Type 0 where
   pub is : r ≡ length (codecsBy c)
   pub few : r ≤ mostCodecs

@@ -1,4 +1,4 @@
-// Whether a configuration can be used.
+// Whether a configuration is valid.
 ghost use mathlib.Core.Path.{_≡_};
 ghost use mathlib.Core.Bool.{_&&_};
 ghost use lib.ListN.{length};
@@ -12,7 +12,7 @@ use crate::MOST_CODECS;
 use crate::MOST_NAME;
 use octets::spans::up_to;
 
-// n is a to b.
+// n is from a to b.
 fn is_between(a: u8, b: u8, n: u8) -> bool
     ensures { λ r. ⌜ r ≡ between a b n ⌝ }
 {
@@ -51,7 +51,7 @@ fn right_name(s: &[u8]) -> bool
     all_visible(s)
 }
 
-// The entry can be used, and its name lies inside its array.
+// The entry is valid, and its name lies inside its array.
 pub fn right_codec(k: Codec) -> bool
     ensures { λ r. ⌜ r ≡ (formatInside (k .format) && rightCodec (codecBy k)) ⌝ }
 {
@@ -68,7 +68,7 @@ pub fn right_codec(k: Codec) -> bool
     }
 }
 
-// There are one to eight entries, and each can be used.
+// There are one to eight entries, each of them valid.
 fn right_codecs(c: Config) -> bool
     ensures { λ r. ⌜ r ≡ (configInside c && rightCodecs (codecsBy c)) ⌝ }
 {
@@ -91,7 +91,7 @@ fn right_codecs(c: Config) -> bool
     true
 }
 
-// The packet times are a range: 1 or more, least not above most.
+// The packet times are 1 or more, least not above most.
 fn right_times(least: u8, most: u8) -> bool
     ensures { λ r. ⌜ r ≡ rightTimes least most ⌝ }
 {
@@ -101,7 +101,7 @@ fn right_times(least: u8, most: u8) -> bool
     least <= most
 }
 
-// All but the codecs can be used.
+// All but the codecs is valid.
 pub fn right_general(c: Config) -> bool
     ensures { λ r. ⌜ r ≡ rightGeneral (configurationBy c) ⌝ }
 {
@@ -119,7 +119,7 @@ pub fn right_general(c: Config) -> bool
     false
 }
 
-// Whether the configuration can be used.
+// Document 01's number 12 for a configuration that is not valid.
 pub fn check(c: Config) -> Checked
     ensures { λ r. ⌜ r ≡ checked c ⌝ }
 {

@@ -59,7 +59,7 @@ fn names_entry(k: Codec, payload: u8, text: &[u8]) -> bool
     }
 }
 
-// How many entries there are, at most as many as the array holds.
+// The number of entries, at most as many as the array holds.
 fn entries(c: Config) -> usize
     ensures { λ r. ⌜ EntryCount c r ⌝ }
 {
@@ -86,7 +86,7 @@ pub fn names_any(c: Config, payload: u8, text: &[u8]) -> bool
     false
 }
 
-// Codec entry n, counted from 1.
+// Codec entry n, counted from 1; blank if there is none.
 pub fn entry_at(c: Config, n: u16) -> FoundCodec
     ensures { λ r. ⌜ FoundAt c n r ⌝ }
 {
@@ -109,7 +109,7 @@ pub fn entry_at(c: Config, n: u16) -> FoundCodec
     FoundCodec { known: true, codec }
 }
 
-// An entry that says nothing.
+// A blank entry: payload 0, with zeros for a name.
 pub fn blank() -> Codec
     ensures { λ r. ⌜ r ≡ blankCodec ⌝ }
 {

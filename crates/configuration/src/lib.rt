@@ -1,4 +1,4 @@
-// An endpoint's configuration: whether it can be used, and which codec a command or a message names.
+// An endpoint's configuration: whether it is valid, and which codec a command or a message names.
 pub mod check;
 pub mod codecs;
 
@@ -12,13 +12,13 @@ pub const MOST_CODECS: usize = 8;
 
 pub const MOST_NAME: usize = 32;
 
-// How a codec entry is known: by a payload, or by an encoding name of so many octets.
+// What identifies a codec entry: a payload, or an encoding name of this many octets.
 pub enum Format {
     Payload(u8),
     Named(usize),
 }
 
-// A codec entry. An enum holds no array, so the name stands beside the format.
+// A codec entry. An enum can't hold an array, so the name is beside the format.
 pub struct Codec {
     pub format: Format,
     pub name: [u8; MOST_NAME],
@@ -38,19 +38,19 @@ pub struct Config {
     pub codecs: [Codec; MOST_CODECS],
 }
 
-// Whether a configuration can be used, or document 01's number.
+// Whether a configuration is valid, or document 01's number.
 pub enum Checked {
     Usable,
     Refused(u8),
 }
 
-// A codec entry that was looked for; where it is not known, the codec says nothing.
+// A codec entry that was looked up; the codec is blank if it is not known.
 pub struct FoundCodec {
     pub known: bool,
     pub codec: Codec,
 }
 
-// The packet time n is none, which is 0, or in range.
+// The packet time n is in range, or 0 for none.
 pub fn none_or_in_range(c: Config, n: u16) -> bool
     ensures { λ r. ⌜ r ≡ ptimeNoneOrInRange (configurationBy c) n ⌝ }
 {

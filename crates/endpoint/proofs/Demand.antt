@@ -36,7 +36,7 @@ Log = strike.Log Bearer Stream Given
 abbrev ruleOf : Config → book.Book Bearer Stream → Given → book.Verdict Bearer Stream
 ruleOf c = rule (configurationBy c)
 
--- what the caller is told is the answer
+-- what the caller is told is the book's reply
 pub told-back : (a : book.Reply) (xs : List ℕ) → replyBy (replyFor a) (outFor a xs) ≡ a
 told-back (refusal n) xs = refl
 told-back (done s n o d) xs = ap (λ (p : List ℕ). done s n p d) (take-at o (drop (length o) xs) (length o) refl)
@@ -78,7 +78,7 @@ demand3 c e h gs ls f run =
       in-force = ap (λ (l : Log). settled (l .book)) p ∙ s .in-force ∙ ap (λ (l : Log). lastSettled (exchanged (configurationBy c)) (l .lines)) (sym p);
     }
 
--- what `Endpoint::new` hands back for a configuration that it does not refuse is a fresh endpoint of it
+-- `Endpoint::new` returns a fresh endpoint for a configuration that it does not refuse
 pub opened-fresh : (c : Config) (o : Created) → Creates c o → o .checked ≡ Usable → Fresh c (o .endpoint)
 unfolding checked
 opened-fresh c o h e = record { right = by-bool (rightConfig c) _ (λ t. t) (λ t. absurd (refused t)); config = ap (λ (x : Endpoint). x .config) (h .endpoint); idle = ap (λ (x : Endpoint). x .state) (h .endpoint) }

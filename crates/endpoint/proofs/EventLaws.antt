@@ -1,5 +1,5 @@
--- From a verdict to an event: number 4 where the buffer is short, else what the rules say in the state at hand; and from a writer's
--- answer to a verdict that writes a message, which fits since a message has at most 447 octets.
+-- From a verdict to an event: number 4 if the buffer is short, otherwise the rules' verdict in this state; and from a writer's answer
+-- to a verdict that writes a message, which fits since a message has at most 447 octets.
 -- Assumes nothing.
 use Prim.Native.Nat.{ℕ, _≤_, _<_}
 use mathlib.Core.Path.{_≡_, refl, sym, _∙_, ap, subst}

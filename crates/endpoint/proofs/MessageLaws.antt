@@ -1,5 +1,4 @@
--- What an endpoint does with a message, by what the code found out of it: each law takes the code's tests and gives the rules'
--- verdict.
+-- What an endpoint does with a message, by the results of the code's tests: each law takes these and gives the rules' verdict.
 -- Assumes nothing.
 use Prim.Native.Nat.{ℕ, _≤_}
 use mathlib.Core.Path.{_≡_, refl, sym, _∙_, ap, subst}

@@ -1,4 +1,4 @@
--- What a reader can quote of one event: from the contract of its method alone, by cases on the rules' verdict.
+-- What can be quoted about one event, from the contract of its method alone, by cases on the rules' verdict.
 -- Assumes nothing.
 use Prim.Native.Nat.{ℕ, _≤_}
 use mathlib.Core.Path.{_≡_, refl, sym, _∙_, ap, ap₂, subst}
@@ -221,7 +221,7 @@ request-ignored self m xs ys version r did room short head ignored =
     c : Configuration
     c = configurationBy (self .config)
 
--- ---- an endpoint whose configuration is not refused refuses no message but for a short buffer, and no command that has a Request
+-- ---- with a valid configuration a message is refused only for a short buffer, and a command that has a Request is not refused
 abbrev Answered : Verdict → Type 0
 Answered (refused n) = ⊥
 Answered discarded = Unit {0}

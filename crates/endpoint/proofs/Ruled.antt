@@ -1,5 +1,5 @@
--- The rules of "One endpoint" meet what the claim on failed attempts asks of a rule, whatever the reader and the judge answer: none
--- of them is looked into. A verdict's kind and the bearer that it settles tell two verdicts apart.
+-- The rules of "One endpoint" meet `Laws` of `book`, whatever the reader and the judge answer: neither is unfolded. Verdicts are told
+-- apart by their kind and by the bearer that they settle.
 -- Assumes nothing.
 use Prim.Native.Nat.{ℕ, _≤_, _<_}
 use mathlib.Core.Path.{_≡_, refl, ap}

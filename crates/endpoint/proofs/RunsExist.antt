@@ -1,6 +1,6 @@
 -- There is a run through every list of events: each verdict of the rules has an answer that meets `Did`. Reply and output are the
--- book's; the endpoint that follows is made from the book. No verdict names a stream with more than three fmtp texts, so the texts
--- of its stream can be laid one after another in a list, which the endpoint then holds.
+-- book's; the endpoint is made from the book. No verdict names a stream with more than three fmtp texts, so the texts of its stream
+-- can be laid one after another in a list that the endpoint holds.
 -- Assumes nothing.
 use Prim.Native.Nat.{ℕ, zero, suc, _+_, _≤_}
 use mathlib.Core.Path.{_≡_, refl, sym, _∙_, subst}

@@ -1,5 +1,5 @@
--- The book's functions read on state and side are the book's own, and so each verdict's answer is the one that the book gives: by
--- cases on the state.
+-- The functions of `States` agree with the book's, and so each verdict's answer is the one that the book gives: by cases on the
+-- state.
 -- Assumes nothing.
 use Prim.Native.Nat.{ℕ}
 use mathlib.Core.Path.{_≡_, refl, _∙_, ap}

@@ -1,4 +1,4 @@
--- Demand 3, of the endpoint itself: for every list of events on one fresh endpoint, with every message and every buffer.
+-- Demand 3, for the endpoint itself: every list of events on a fresh endpoint, with every message and every buffer.
 use Prim.Native.Nat.{ℕ}
 use mathlib.Core.Path.{_≡_}
 use mathlib.Core.Bool.{true}
@@ -23,7 +23,7 @@ use Rattle.endpoint.specs.Step.{bookOf, Did}
 abbrev pub LogLine : Type 0
 LogLine = strike.LogLine Bearer Given
 
--- what the caller is told: the reply, with the octets that stand at the front of the output buffer
+-- what the caller is told: the reply, with the octets at the front of the output buffer
 abbrev pub replyBy : Reply → List ℕ → book.Reply
 replyBy (Refused n) out = refusal n
 replyBy (Done s n w d) out = done s n (take w out) d
@@ -39,8 +39,8 @@ pub data Runs (e : Endpoint) : List Given → List LogLine → Endpoint → Type
   after : {gs : List Given} {ls : List LogLine} {f : Endpoint} → Runs e gs ls f → (x : Event) (buffer out : List ℕ) (r : Answer) → Did f x buffer out r
       → Runs e (gs ++ (record { event = x; room = length buffer } ∷ [])) (ls ++ (seen x buffer out r ∷ [])) (r .endpoint)
 
--- Nothing below is claimed of an empty set of runs: every event with every buffer has an answer that meets `Did` (`answer-exists`
--- in `proofs/RunsExist.antt`), and so there is a run from every endpoint through every list of events (`run-exists`).
+-- There is always a run, so nothing below is claimed of no run at all: for every endpoint, event and buffer some answer meets `Did`
+-- (`answer-exists` in `proofs/RunsExist.antt`), and so a run leads from every endpoint through every list of events (`run-exists`).
 pub record HasAnswer (e : Endpoint) (x : Event) (buffer : List ℕ) : Type 0 where
   pub out : List ℕ
   pub answer : Answer
@@ -51,26 +51,26 @@ pub record HasRun (e : Endpoint) (gs : List Given) : Type 0 where
   pub left : Endpoint
   pub run : Runs e gs lines left
 
--- e is a fresh endpoint of the configuration c, which is not refused
+-- e is a fresh endpoint, and its configuration c is valid
 pub record Fresh (c : Config) (e : Endpoint) : Type 0 where
   pub right : rightConfig c ≡ true
   pub config : e .config ≡ c
   pub idle : e .state ≡ Idle
 
--- the lines of a run by the book that no failed attempt takes
+-- the lines that are left when each failed attempt is struck out
 abbrev pub kept : Config → List Given → List LogLine
 kept c gs = keptOf (rule (configurationBy c)) gs
 
--- the claim on the run of a fresh endpoint through the events gs, which showed the lines ls and left f
+-- the claim, for a run of a fresh endpoint through the events gs that shows the lines ls and ends in f
 pub record Demand3 (c : Config) (gs : List Given) (ls : List LogLine) (f : Endpoint) : Type 0 where
-  -- each event's answer is the one that the book gives, which is fed the configuration, the events and the buffers' lengths alone
+  -- each reply is the one that the book gives, which is fed only the configuration, the events and the lengths of the buffers
   pub by-book : ls ≡ logOf (rule (configurationBy c)) gs .lines
-  -- what is left when each failed attempt is struck out are lines of this run, in its order
+  -- the lines that are left are lines of this run, in the same order
   pub part : Sublistᴰ (kept c gs) ls
-  -- another fresh endpoint, given the events that are left, shows the same lines, each with the same bearer in force after it;
-  -- none of them drops a change of ours, since a change that was dropped is struck
+  -- another fresh endpoint, given the events that are left, shows the same lines, so with the same bearer in force after each; none of
+  -- them drops a change of ours, since a change that was dropped is struck
   pub same-lines : (e′ : Endpoint) (ls′ : List LogLine) (f′ : Endpoint) → Fresh c e′ → Runs e′ (eventsOf (kept c gs)) ls′ f′ → ls′ ≡ map undropped (kept c gs)
-  -- and is left with the same bearer in force
+  -- and it ends with the same bearer in force
   pub same-bearer : (e′ : Endpoint) (ls′ : List LogLine) (f′ : Endpoint) → Fresh c e′ → Runs e′ (eventsOf (kept c gs)) ls′ f′ → settled (bookOf f′) ≡ settled (bookOf f)
   -- the bearer in force is that of the last successful exchange since the last release that was not refused
   pub in-force : settled (bookOf f) ≡ lastSettled (exchanged (configurationBy c)) ls

@@ -1,6 +1,6 @@
--- What the contracts of this crate speak of. `Rule` is document 01's "One endpoint" as a function of configuration, book and event;
--- `Step` says what a method does by it; `Call` names the event of a call and what opening an endpoint answers; `Demand` is demand 3;
--- `Promises` is what else can be quoted.
+-- The definitions that the contracts of this crate use. `Rule` is document 01's "One endpoint" as a verdict on configuration, book and
+-- event; `Step` is what the public functions promise; `Demand` is demand 3; `Promises` is what else can be quoted; `Private` is for
+-- functions that are not public.
 pub mod Rule
 pub mod Step
 pub mod Demand

@@ -1,4 +1,4 @@
--- What a reader can quote of one event, beside demand 3: `proofs/Promises.antt` shows each of it for every run of the code.
+-- What can be quoted about one event, besides demand 3. `proofs/Promises.antt` proves it from the contract of the event's method.
 use Prim.Native.Nat.{ℕ}
 use mathlib.Core.Path.{_≡_}
 use mathlib.Core.Bool.{Bool, true, false}
@@ -22,7 +22,7 @@ use Rattle.endpoint.specs.declared.Answer.{Answer}
 use Rattle.endpoint.specs.declared.Reply.the-variants.{Done}
 use Rattle.endpoint.specs.Step.{bookOf, written}
 
--- the message can be read to its end, and the bearer that it names is right
+-- the message names a bearer, and this bearer is right
 abbrev pub rightIn : (Bearer → Bool) → Option Bearer → Bool
 rightIn right none = false
 rightIn right (some d) = right d
@@ -38,12 +38,12 @@ pub record Discards (self : Endpoint) (before after : List ℕ) (r : Answer) : T
 abbrev pub isRightAccepted : Endpoint → Stream → List ℕ → Bool
 isRightAccepted self q m = rightIn (rightAccepted (configurationBy (self .config)) (settled (bookOf self)) q) (bearerIn (readMessage m))
 
--- m puts its bearer in force exactly when it is right: the one notice or the other, and nothing is written
+-- m puts its bearer in force exactly when it is right; nothing is written
 pub record Takes (self : Endpoint) (q : Stream) (m before after : List ℕ) (r : Answer) : Type 0 where
   -- right: its bearer is in force
   pub right : (d : Bearer) → bearerIn (readMessage m) ≡ some d → isRightAccepted self q m ≡ true
       → (bookOf (r .endpoint) ≡ settling d (bookOf self)) × (r .reply ≡ Done Up (byBearer (bookOf self) Notice.Up Notice.Changed) 0 false) × (after ≡ before)
-  -- wrong: the attempt is over, and the bearer in force, if there is one, stays
+  -- wrong: the attempt ends, and the bearer in force, if there is one, stays
   pub wrong : isRightAccepted self q m ≡ false
       → (bookOf (r .endpoint) ≡ closed (bookOf self)) × (r .reply ≡ Done (stateOf (closed (bookOf self))) (byBearer (bookOf self) Notice.SetupFailed Notice.ChangeFailed) 0 false) × (after ≡ before)
 
@@ -51,12 +51,12 @@ pub record Takes (self : Endpoint) (q : Stream) (m before after : List ℕ) (r :
 abbrev pub isRightRequest : Endpoint → List ℕ → Bool
 isRightRequest self m = rightIn (rightRequest (configurationBy (self .config)) (settled (bookOf self))) (bearerIn (readMessage m))
 
--- the octets of a message stand at the front of the buffer, and the reply has their number, this state and this notice
+-- the message is at the front of the buffer, and the reply has its length, this state and this notice
 pub record Answers (self : Endpoint) (content : Content) (before after : List ℕ) (r : Answer) (s : State) (n : Notice) : Type 0 where
   pub out : after ≡ written (messageText (self .config .own) content) before
   pub reply : r .reply ≡ Done s n (length (messageText (self .config .own) content)) (drops (bookOf self))
 
--- m is accepted exactly when it is right, and rejected else
+-- m is accepted exactly when it is right; otherwise it is rejected
 pub record Judges (self : Endpoint) (m before after : List ℕ) (r : Answer) : Type 0 where
   pub right : (d : Bearer) → bearerIn (readMessage m) ≡ some d → isRightRequest self m ≡ true
       → (bookOf (r .endpoint) ≡ settling (granted (configurationBy (self .config)) d) (bookOf self))

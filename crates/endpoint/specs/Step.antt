@@ -1,4 +1,4 @@
--- What the public functions of this crate promise: what a new endpoint is, and what an event does to an endpoint, by the book.
+-- What the public functions of this crate promise: what a new endpoint is, and what an event does to an endpoint.
 use Prim.Native.Nat.{ℕ}
 use mathlib.Core.Path.{_≡_}
 use mathlib.Core.Bool.{true}
@@ -40,7 +40,7 @@ bookBy AwaitChange s q b = awaitChange s b q
 abbrev pub bookOf : Endpoint → Book
 bookOf e = bookBy (e .state) (e .side) (requestBy (e .request)) (bearerBy (e .bearer))
 
--- the texts of the Request and of the bearer that e holds lie inside the arrays beside them: no length is made up
+-- the texts of the Request and of the bearer that e holds lie inside the arrays beside them
 pub record Inside (e : Endpoint) : Type 0 where
   pub request : requestInside (e .request) ≡ true
   pub bearer : bearerInside (e .bearer) ≡ true
@@ -50,7 +50,7 @@ pub record Inside (e : Endpoint) : Type 0 where
 abbrev pub blankStream : Places
 blankStream = barePlaces (record { at = 0; len = 0 }) 0 (record { at = 0; len = 0 }) 0
 
--- an endpoint to which nothing has happened, in every field; side, Request and bearer have no meaning while it is idle
+-- a fresh endpoint, fixed in every field; side, Request and bearer have no meaning while it is idle
 abbrev pub freshEndpoint : Config → Endpoint
 freshEndpoint c = record {
   config = c;
@@ -60,13 +60,13 @@ freshEndpoint c = record {
   bearer = record { address = V4 0; stream = blankStream; text = replicate mostRead 0 };
 }
 
--- r has number 12 or none for the configuration c, and a fresh endpoint with it either way
+-- r says whether the configuration c is refused, and has a fresh endpoint in either case
 pub record Creates (c : Config) (r : Created) : Type 0 where
   pub checked : r .checked ≡ checked c
   pub endpoint : r .endpoint ≡ freshEndpoint c
 
 -- ---- an event
--- the event that a value of the code names; m is the message beside it, which counts for `Message` alone
+-- the event that the code's value stands for; m is the octets of a message, ignored for other events
 abbrev pub eventBy : code.Event → List ℕ → Event
 eventBy (SetUp entry payload ptime) m = setUp entry payload ptime
 eventBy (Change entry payload ptime) m = change entry payload ptime
@@ -75,16 +75,16 @@ eventBy T1 m = t1
 eventBy T2 m = t2
 eventBy Message m = message m
 
--- document 01's number, or state, notice, octets written and whether our change was dropped
+-- the code's form of a reply: the octets are in the output buffer, and the reply has their number
 abbrev pub replyFor : book.Reply → Reply
 replyFor (refusal n) = Refused n
 replyFor (done s n o d) = Done s n (length o) d
 
--- the octets o at the front of xs, and what of xs lies past them
+-- xs with the octets o at its front; past them it is unchanged
 abbrev pub written : List ℕ → List ℕ → List ℕ
 written o xs = o ++ drop (length o) xs
 
--- what a reply leaves in the output buffer xs
+-- the output buffer xs after a reply
 abbrev pub outFor : book.Reply → List ℕ → List ℕ
 outFor (refusal n) xs = xs
 outFor (done s n o d) xs = written o xs
@@ -101,8 +101,8 @@ Unaltered (requestConfused o) self r = r ≡ self
 Unaltered (requestRight b o) self r = Unit {0}
 Unaltered (requestWrong o) self r = Unit {0}
 
--- What an event whose verdict is v does: the configuration stays, the book moves, and the reply and what the output buffer then
--- holds are the book's. Texts lie inside as before.
+-- What an event with the verdict v does: the configuration stays, the book moves, and reply and output buffer are those that the book
+-- gives. If the texts lay inside their arrays, they still do.
 pub record Gave (self : Endpoint) (v : Verdict) (before after : List ℕ) (r : Answer) : Type 0 where
   pub config : r .endpoint .config ≡ self .config
   pub book : bookOf (r .endpoint) ≡ moved (bookOf self) v
@@ -111,7 +111,7 @@ pub record Gave (self : Endpoint) (v : Verdict) (before after : List ℕ) (r : A
   pub unaltered : Unaltered v self (r .endpoint)
   pub inside : Inside self → Inside (r .endpoint)
 
--- what an event does to the endpoint, the answer and the output buffer: what the rules' verdict on it does
+-- what an event does: what the rules' verdict on it does
 abbrev pub Did : Endpoint → Event → List ℕ → List ℕ → Answer → Type 0
 Did self e before after r =
     Gave self (rule (configurationBy (self .config)) (bookOf self) (record { event = e; room = length before })) before after r

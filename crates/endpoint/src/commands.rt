@@ -1,4 +1,4 @@
-// Commands of the call control.
+// Commands from call control.
 ghost use mathlib.Core.Option.{some};
 ghost use Prim.Native.Nat.{_≤_};
 ghost use lib.ListN.{length};
@@ -35,7 +35,7 @@ impl Endpoint {
         }
     }
 
-    // A command in the state that it suits.
+    // A set-up in idle or a change in up.
     fn command(self, entry: u16, payload: u16, ptime: u16, out: &mut [u8]) -> Answer
         requires { ⌜ leastRoom ≤ length (now out) ⌝ }
         ensures { λ r. ⌜ Gave self (commandVerdict (configurationBy (self .config)) (commanded (configurationBy (self .config)) entry payload ptime)) (now (out .entry)) (now (out .exit)) r ⌝ }
@@ -50,7 +50,7 @@ impl Endpoint {
         self.refused(5)
     }
 
-    // The call control wants a bearer: it names a codec entry, a payload and a packet time.
+    // Call control sets up a bearer: it names a codec entry, a payload and a packet time.
     pub fn set_up(self, entry: u16, payload: u16, ptime: u16, out: &mut [u8]) -> Answer
         ensures { λ r. ⌜ Did self (Event.setUp entry payload ptime) (now (out .entry)) (now (out .exit)) r ⌝ }
     {
@@ -66,7 +66,7 @@ impl Endpoint {
         }
     }
 
-    // The call control wants the bearer in force changed.
+    // Call control changes the bearer in force.
     pub fn change(self, entry: u16, payload: u16, ptime: u16, out: &mut [u8]) -> Answer
         ensures { λ r. ⌜ Did self (Event.change entry payload ptime) (now (out .entry)) (now (out .exit)) r ⌝ }
     {
@@ -82,7 +82,7 @@ impl Endpoint {
         }
     }
 
-    // The call control releases the bearer, or the attempt to have one.
+    // Call control releases the bearer, or ends the attempt to set one up.
     pub fn release(self, out: &mut [u8]) -> Answer
         ensures { λ r. ⌜ Did self Event.release (now (out .entry)) (now (out .exit)) r ⌝ }
     {

@@ -20,11 +20,11 @@ use ipbcp::MOST_READ;
 use media::Stream;
 use octets::Span;
 
-// The shortest output buffer that an event can be given.
+// The shortest output buffer that is taken.
 pub const LEAST_ROOM: usize = 512;
 
-// An endpoint: its configuration, and its book. The side counts while a bearer is in force, the Request while one is awaited,
-// the bearer while one is in force.
+// An endpoint: its configuration and its book. Side and bearer have a meaning while a bearer is in force, the Request while it is
+// open.
 pub struct Endpoint {
     pub config: Config,
     pub state: State,
@@ -33,8 +33,8 @@ pub struct Endpoint {
     pub bearer: Bearer,
 }
 
-// What an event is answered: document 01's number, or the state after it, the notice, how many octets stand at the front of the
-// output buffer, and whether our own change was dropped.
+// The reply to an event: document 01's number; or the state after it, the notice, the number of octets at the front of the output
+// buffer, and whether the peer's Request cancelled our pending change.
 pub enum Reply {
     Refused(u8),
     Done {
@@ -51,7 +51,7 @@ pub struct Answer {
     pub reply: Reply,
 }
 
-// An event as a value, for `handle`; the octets of a message stand beside it.
+// An event as a value, for `handle`, which takes the octets of a message beside it.
 pub enum Event {
     // A codec entry, counted from 1, a payload and a packet time.
     SetUp(u16, u16, u16),
@@ -62,7 +62,7 @@ pub enum Event {
     Message,
 }
 
-// The answer to a configuration, and a fresh endpoint with it, which is not to be used where the configuration is refused.
+// Whether the configuration is valid, and a fresh endpoint, which is not to be used if it is not.
 pub struct Created {
     pub checked: Checked,
     pub endpoint: Endpoint,
@@ -77,7 +77,7 @@ fn blank_stream() -> Stream
 }
 
 impl Endpoint {
-    // A fresh endpoint of the configuration, or document 01's number for one that can't be used.
+    // A fresh endpoint, and document 01's number 12 if the configuration is not valid.
     pub fn new(config: Config) -> Created
         ensures { λ r. ⌜ Creates config r ⌝ }
     {
@@ -104,7 +104,7 @@ impl Endpoint {
         }
     }
 
-    // Every event in one way: m is the message of `Event::Message`, and counts for no other event.
+    // Any event; m is the message of `Event::Message`, ignored for other events.
     pub fn handle(self, event: Event, m: &[u8], out: &mut [u8]) -> Answer
         ensures { λ r. ⌜ Did self (eventBy event (now (m .entry))) (now (out .entry)) (now (out .exit)) r ⌝ }
     {

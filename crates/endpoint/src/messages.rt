@@ -1,4 +1,4 @@
-// Messages of the peer.
+// Messages from the peer.
 ghost use mathlib.Core.Option.{none, some};
 ghost use Prim.Native.Nat.{_≤_};
 ghost use lib.ListN.{length};
@@ -57,7 +57,7 @@ impl Endpoint {
         }
     }
 
-    // Answers a right Request with an Accepted: own port, the packet time moved into range, all else copied from m.
+    // Answers a right Request with an Accepted: own port, the packet time moved into range, the rest copied from m.
     fn accept(self, address: Address, s: Stream, m: &[u8], out: &mut [u8]) -> Answer
         requires { ⌜ Answerable (now m) s (now out) ⌝ }
         ensures { λ r. ⌜ Gave self (answerAccepted (configurationBy (self .config)) (namedBy (now (m .entry)) address s)) (now (out .entry)) (now (out .exit)) r ⌝ }
@@ -136,7 +136,7 @@ impl Endpoint {
         self.discarded()
     }
 
-    // What ends an attempt of ours, if there is one.
+    // An answer that ends our attempt, if one is open.
     fn hear_declined(self) -> Answer
         ensures { λ r. ⌜ Silent self (ifAwaited (awaited (bookOf self)) (λ q. Verdict.failed)) r ⌝ }
     {
@@ -147,7 +147,7 @@ impl Endpoint {
         self.discarded()
     }
 
-    // A message has come.
+    // A message has arrived.
     pub fn message(self, m: &[u8], out: &mut [u8]) -> Answer
         ensures { λ r. ⌜ Did self (Event.message (now (m .entry))) (now (out .entry)) (now (out .exit)) r ⌝ }
     {

@@ -1,4 +1,4 @@
-// What each verdict of the book does to an endpoint, and what it is answered.
+// What each verdict does to an endpoint, and the reply.
 ghost use Rattle.book.specs.Book.{closed, opening, settling, Verdict};
 ghost use mathlib.Core.Path.{_≡_};
 ghost use mathlib.Core.Bool.{true};
@@ -73,7 +73,7 @@ impl Endpoint {
         }
     }
 
-    // The event is refused by n.
+    // The event is refused with number n.
     pub(crate) fn refused(self, n: u8) -> Answer
         ensures { λ r. ⌜ Silent self (Verdict.refused n) r ⌝ }
     {

@@ -1,5 +1,5 @@
--- Which events are left when each failed attempt is struck out, in short lists: computed, as one table. A message stands here as
--- what it is heard as.
+-- Which events are left when each failed attempt is struck out, in short lists: computed, as one table. A message is given by what it
+-- is heard as.
 -- Assumes nothing.
 use Prim.Native.Nat.{ℕ}
 use mathlib.Core.Path.{_≡_, refl}
@@ -25,7 +25,7 @@ use Rattle.bearer.specs.Hearing.{Heard}
 use Rattle.bearer.specs.Judging.{audio, rtpAvp, sameFamily, sameAddress, offered, commanded, unmoved, rightStream, rightRequest, nearest, restated, granted, acceptedFor, sameOffer, sameHost, rightAccepted}
 use Rattle.endpoint.specs.Rule.{Book, Verdict, Event, setUp, change, release, t1, t2, messageVerdict, eventVerdict}
 
--- document 01's configuration, with a named codec more
+-- document 01's configuration, with one more codec, a named one
 abbrev config : Configuration
 config = record {
   own = V4 3221225994;
@@ -99,30 +99,30 @@ cases : List (List Heard-event × List Heard-event)
 cases =
     -- document 01's trace: the release comes to an idle endpoint, is refused, and so stays
     (U ∷ T1 ∷ X ∷ [], X ∷ [])
-    -- a release strikes an open set-up and goes with it
+    -- a release strikes an open set-up and is struck with it
     ∷ (U ∷ T2 ∷ X ∷ [], [])
     -- a release strikes an open change and stays, at R and at I
     ∷ (request ∷ C ∷ T1 ∷ X ∷ [], request ∷ X ∷ [])
     ∷ (U ∷ accepted ∷ C ∷ X ∷ [], U ∷ accepted ∷ X ∷ [])
-    -- a Request at R during our change: a right one drops the change and stays
+    -- a Request at R during our change: a right one cancels the change and stays
     ∷ (request ∷ C ∷ request ∷ [], request ∷ request ∷ [])
     ∷ (request ∷ C ∷ other-request ∷ request ∷ X ∷ [], request ∷ request ∷ X ∷ [])
-    -- a wrong one, and one that can't be read, goes with the change
+    -- a wrong one, and one that can't be read, is struck with the change
     ∷ (request ∷ C ∷ wrong-request ∷ T2 ∷ [], request ∷ T2 ∷ [])
     ∷ (request ∷ C ∷ bad-request ∷ [], request ∷ [])
-    -- one of another version goes alone, and the change goes on
+    -- one of another version is struck alone, and the change goes on
     ∷ (request ∷ C ∷ other-request ∷ accepted ∷ [], request ∷ C ∷ accepted ∷ [])
     -- a Confused between a command and its answer ends the attempt; the answer is then discarded, and stays
     ∷ (U ∷ declined ∷ accepted ∷ [], accepted ∷ [])
-    -- T1 left over from a failed set-up ends no change
+    -- T1 left over from a failed set-up does not end a change
     ∷ (U ∷ declined ∷ request ∷ C ∷ T1 ∷ accepted ∷ [], request ∷ C ∷ T1 ∷ accepted ∷ [])
-    -- at I a Request is discarded while a change is awaited, and goes with it where it fails
+    -- at I a Request is discarded while a change is awaited, and is struck with the change if that fails
     ∷ (U ∷ accepted ∷ C ∷ request ∷ T2 ∷ [], U ∷ accepted ∷ [])
     -- what is discarded or refused during an attempt that succeeds stays
     ∷ (U ∷ request ∷ U ∷ accepted ∷ [], U ∷ request ∷ U ∷ accepted ∷ [])
     -- a wrong Accepted ends the attempt
     ∷ (U ∷ accepted ∷ C ∷ wrong-accepted ∷ accepted ∷ X ∷ [], U ∷ accepted ∷ accepted ∷ X ∷ [])
-    -- a Request that is rejected goes alone where no attempt is open
+    -- a Request that is rejected is struck alone if no attempt is open
     ∷ (wrong-request ∷ request ∷ bad-request ∷ [], request ∷ [])
     -- an attempt that is open at the end stays
     ∷ (U ∷ T2 ∷ [], U ∷ T2 ∷ [])

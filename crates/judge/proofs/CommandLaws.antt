@@ -42,7 +42,7 @@ unfolding formatBy nameOf
 name-short (Payload n) name = omega arith
 name-short (Named n) name = simp length-take (omega arith)
 
--- the words, a name t that is not too long, and what was there; a and r are where the name begins and ends
+-- the words, then a name t that is not too long; a and r are where the name begins and ends
 module _ (z g f t : List ℕ) (a r : ℕ) (room : length z ≡ mostOffered) (short : length t ≤ mostName) (p : Appends z 0 (audio ++ rtpAvp) a g) (q : Appends g a t r f) where
   name-length : r - a ≡ length t
   name-length =

@@ -104,7 +104,7 @@ module _ (m : List ℕ) (ten : readMessage m ≡ refused 10) (y : Head) (is : y 
 
 pub ruleset wrongs = (wrong-untyped, wrong-request, wrong-accepted, wrong-confused, wrong-rejected)
 
--- ---- messages of which no more than version and type is read
+-- ---- messages of which only version and type are read
 module _ (k : MessageType) where
   typed-told : (m : List ℕ) (v : ℕ) → readMessage m ≡ typed v k → (j : MessageType) → k ≡ j → (v ≡ 1 → isDescribed j ≡ false) × (heard m ≡ heardBy (Typed v j) (typed v j))
   typed-told m v p j r = go (rw (p, r) at (told m))

@@ -1,3 +1,4 @@
--- What the contracts of this crate speak of, beside the definitions of `bearer`.
+-- The definitions that the contracts of this crate use, with those of `bearer`: `Commands` is what a command comes to; `Private` is for
+-- functions that are not public.
 pub mod Commands
 pub mod Private

@@ -1,4 +1,4 @@
-// An Accepted judged.
+// Judging an Accepted.
 ghost use mathlib.Core.Path.{_≡_};
 ghost use Rattle.media.specs.Meaning.{streamBy};
 ghost use Rattle.configuration.specs.Meaning.{configurationBy};
@@ -15,7 +15,7 @@ use media::Stream;
 use octets::spans::text;
 use octets::words::equals;
 
-// Media, transport, payload and rtpmap of the stream s, whose texts are in m, are as in the stream o, whose texts are in offer.
+// Media, transport, payload and rtpmap of s are as in o; the texts of s are in m, those of o in offer.
 fn same_stream(o: Stream, offer: &[u8], s: Stream, m: &[u8]) -> bool
     ensures { λ r. ⌜ r ≡ sameOffer (streamBy (now (offer .entry)) o) (streamBy (now (m .entry)) s) ⌝ }
 {
@@ -43,7 +43,7 @@ fn same_offer(q: Request, s: Stream, m: &[u8]) -> bool
     same_stream(q.stream, &offer, s, m)
 }
 
-// The address is as in the bearer b, where one is held.
+// The address is that of the bearer b, if one is held.
 fn same_host(held: bool, b: Bearer, address: Address, s: Stream, m: &[u8]) -> bool
     ensures { λ r. ⌜ r ≡ sameHost (bearerIf held (bearerBy b)) (namedBy (now (m .entry)) address s) ⌝ }
 {
@@ -54,8 +54,7 @@ fn same_host(held: bool, b: Bearer, address: Address, s: Stream, m: &[u8]) -> bo
     true
 }
 
-// The Accepted with this address and stream, whose texts are in m, is right for the Request q; b is in force where a bearer is
-// held.
+// The Accepted with this address and stream, whose texts are in m, is right for the Request q; b is in force if a bearer is held.
 pub fn right_accepted(
     c: Config,
     held: bool,

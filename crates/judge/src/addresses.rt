@@ -1,9 +1,9 @@
-// Addresses compared.
+// Comparing addresses.
 ghost use mathlib.Core.Path.{_≡_};
 ghost use Rattle.bearer.specs.Judging.{sameFamily, sameAddress};
 use address::Address;
 
-// Both are of one family.
+// Both are of the same family.
 pub fn same_family(a: Address, b: Address) -> bool
     ensures { λ r. ⌜ r ≡ sameFamily a b ⌝ }
 {
@@ -19,7 +19,7 @@ pub fn same_family(a: Address, b: Address) -> bool
     }
 }
 
-// Both are one value.
+// Both are the same address.
 pub fn same_address(a: Address, b: Address) -> bool
     ensures { λ r. ⌜ r ≡ sameAddress a b ⌝ }
 {

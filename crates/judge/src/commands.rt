@@ -1,4 +1,4 @@
-// Commands turned into Requests.
+// Turning commands into Requests.
 ghost use mathlib.Core.Path.{_≡_};
 ghost use mathlib.Core.Bool.{true, _&&_};
 ghost use Rattle.configuration.specs.Configuration.{suits, ptimeNoneOrInRange};
@@ -73,7 +73,7 @@ fn suits_command(c: Config, e: FoundCodec, payload: u16, ptime: u16) -> bool
     false
 }
 
-// The Request of a command that names a codec entry, a payload and a packet time.
+// The Request of a command that names a codec entry, a payload and a packet time, if they suit the configuration.
 pub fn request_for(c: Config, entry: u16, payload: u16, ptime: u16) -> Command
     ensures { λ r. ⌜ Commands (configurationBy c) entry payload ptime r ⌝ }
 {

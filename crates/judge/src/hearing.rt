@@ -11,7 +11,7 @@ use ipbcp::Head;
 use ipbcp::Message;
 use ipbcp::MessageType;
 
-// A message that is refused by 10: its type alone counts.
+// A message that is refused by 10: only its type matters.
 fn hear_wrong(m: &[u8]) -> Heard
     requires { ⌜ readMessage (now m) ≡ Reading.refused 10 ⌝ }
     ensures { λ r. ⌜ heardIn (now (m .entry)) r ≡ some (heard (now (m .entry))) ⌝ }
@@ -27,7 +27,7 @@ fn hear_wrong(m: &[u8]) -> Heard
     }
 }
 
-// A message of which no more than version and type is read.
+// A message of which only version and type are read.
 fn hear_typed(kind: MessageType) -> Heard
     ensures { λ r. ⌜ ((m : List ℕ) (v : ℕ) → readMessage m ≡ Reading.typed v kind → heardIn m r ≡ some (heard m)) ⌝ }
 {

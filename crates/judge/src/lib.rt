@@ -1,4 +1,5 @@
-// What an endpoint makes of messages and commands: messages heard, Requests and Accepteds judged, commands turned into Requests.
+// What messages and commands are to an endpoint: messages are classified, Requests and Accepteds judged, commands turned into
+// Requests.
 pub mod accepteds;
 pub mod addresses;
 pub mod commands;
@@ -7,7 +8,7 @@ pub mod requests;
 
 use bearer::Request;
 
-// A command's Request, where its fields suit the configuration; else the Request is of no account.
+// A command's Request, if its fields suit the configuration; otherwise a Request that is never written.
 pub struct Command {
     pub suits: bool,
     pub request: Request,

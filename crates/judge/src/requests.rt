@@ -1,4 +1,4 @@
-// A peer's Request judged.
+// Judging a peer's Request.
 ghost use mathlib.Core.Path.{_≡_};
 ghost use Rattle.media.specs.Meaning.{streamBy};
 ghost use Rattle.configuration.specs.Meaning.{configurationBy};
@@ -14,7 +14,7 @@ use media::Stream;
 use octets::spans::text;
 use octets::words::equals;
 
-// Address and port are as in the bearer b, where one is held.
+// Address and port are those of the bearer b, if one is held.
 fn is_unmoved(held: bool, b: Bearer, address: Address, s: Stream, m: &[u8]) -> bool
     ensures { λ r. ⌜ r ≡ unmoved (bearerIf held (bearerBy b)) (namedBy (now (m .entry)) address s) ⌝ }
 {
@@ -44,7 +44,7 @@ fn right_stream(c: Config, s: Stream, m: &[u8]) -> bool
     false
 }
 
-// The Request with this address and stream, whose texts are in m, is right; b is in force where a bearer is held.
+// The Request with this address and stream, whose texts are in m, is right; b is in force if a bearer is held.
 pub fn right_request(
     c: Config,
     held: bool,
@@ -64,7 +64,7 @@ pub fn right_request(
     false
 }
 
-// The packet time that is nearest to n in range; none stays none.
+// The packet time in range that is nearest to n; 0, for none, stays 0.
 pub fn nearest_time(c: Config, n: u8) -> u8
     ensures { λ r. ⌜ r ≡ nearest (configurationBy c) n ⌝ }
 {

@@ -1,4 +1,4 @@
--- `blank_stream` meets its contract: it is the media line of no text.
+-- `blank_stream` meets its contract: it is a media line with no texts.
 -- Assumes nothing.
 use borrow.Author.Needs.{needs}
 use Rattle.endpoint.proofs.blank_stream.Statement.{statement}

@@ -1,4 +1,4 @@
--- `check::all_visible` meets its contract. The octets passed over are visible, so those that are left decide at each turn.
+-- `check::all_visible` meets its contract. The octets passed over are visible, so the rest decide at each turn.
 -- Assumes nothing.
 use Prim.Native.Nat.{_-_}
 use mathlib.Core.Path.{_≡_}

@@ -1,4 +1,4 @@
--- `check::check` meets its contract. One test that fails refuses the configuration, and all that hold leave it usable.
+-- `check::check` meets its contract. One test that fails refuses the configuration; if all hold it is valid.
 -- Assumes nothing.
 use borrow.Author.Needs.{needs}
 use Rattle.octets.proofs.Pick.{flags}

@@ -1,4 +1,4 @@
--- `check::right_codecs` meets its contract. The entries passed over can be used, so those that are left decide at each turn.
+-- `check::right_codecs` meets its contract. The entries passed over are valid, so the rest decide at each turn.
 -- Assumes nothing.
 use Prim.Native.Nat.{_-_}
 use mathlib.Core.Bool.{_&&_}

@@ -1,4 +1,4 @@
--- `check::right_general` meets its contract. One test that fails decides alone, and where the others hold the last one does.
+-- `check::right_general` meets its contract. One test that fails decides alone; if all others hold, the last one decides.
 -- Assumes nothing.
 use borrow.Author.Needs.{needs}
 use Rattle.octets.proofs.Pick.{flags}

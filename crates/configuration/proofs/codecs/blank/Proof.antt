@@ -1,4 +1,4 @@
--- `codecs::blank` meets its contract: it is made so in every field.
+-- `codecs::blank` meets its contract: each field is written out.
 -- Assumes nothing.
 use mathlib.Core.Path.{refl}
 use Rattle.configuration.proofs.codecs.blank.Statement.{statement}

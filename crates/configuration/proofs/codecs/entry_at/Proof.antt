@@ -1,4 +1,4 @@
--- `codecs::entry_at` meets its contract: entry n is the one at index n - 1, where there are n.
+-- `codecs::entry_at` meets its contract: entry n is the one at index n - 1, if there are n; otherwise it is blank.
 -- Assumes nothing.
 use borrow.Author.Needs.{needs}
 use Rattle.configuration.proofs.EntryLaws.{entered}

@@ -1,4 +1,4 @@
--- `codecs::names_any` meets its contract. The entries passed over are not named, so those that are left decide at each turn.
+-- `codecs::names_any` meets its contract. The entries passed over are not named, so the rest decide at each turn.
 -- Assumes nothing.
 use Prim.Native.Nat.{_-_}
 use mathlib.Core.Path.{_≡_}

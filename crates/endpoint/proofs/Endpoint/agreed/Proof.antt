@@ -1,4 +1,4 @@
--- `Endpoint::agreed` meets its contract: the bearer is settled, and the notice is by whether one was in force.
+-- `Endpoint::agreed` meets its contract: the bearer is settled, and the notice says whether one was in force before.
 -- Assumes nothing.
 use borrow.Author.Needs.{needs}
 use Rattle.endpoint.proofs.VerdictLaws.{gave-agreed}

@@ -1,4 +1,4 @@
--- `Endpoint::change` meets its contract: a command in up, else number 11, where the buffer is long enough.
+-- `Endpoint::change` meets its contract: a command in up, otherwise number 11, if the buffer is long enough.
 -- Assumes nothing.
 use borrow.Author.Needs.{needs}
 use Rattle.endpoint.proofs.EventLaws.{did-short, did-silent, did}

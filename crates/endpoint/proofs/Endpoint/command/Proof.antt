@@ -1,4 +1,4 @@
--- `Endpoint::command` meets its contract: the Request is offered where the command has one, else number 5.
+-- `Endpoint::command` meets its contract: the Request is offered if the command has one, otherwise number 5.
 -- Assumes nothing.
 use borrow.Author.Needs.{needs}
 use Rattle.endpoint.proofs.EventLaws.{command-right, command-wrong}

@@ -1,4 +1,4 @@
--- `Endpoint::discarded` meets its contract: the endpoint is handed back.
+-- `Endpoint::discarded` meets its contract: the endpoint is returned as it was.
 -- Assumes nothing.
 use borrow.Author.Needs.{needs}
 use Rattle.endpoint.proofs.VerdictLaws.{gave-discarded}

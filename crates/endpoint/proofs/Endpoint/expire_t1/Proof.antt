@@ -1,4 +1,4 @@
--- `Endpoint::expire_t1` meets its contract: it ends the attempt where it is awaited, if the buffer is long enough.
+-- `Endpoint::expire_t1` meets its contract: it ends the attempt if T1 is awaited and the buffer is long enough.
 -- Assumes nothing.
 use borrow.Author.Needs.{needs}
 use Rattle.endpoint.proofs.EventLaws.{did-short, expired-t1, stray-t1}

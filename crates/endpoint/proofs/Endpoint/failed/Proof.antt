@@ -1,4 +1,4 @@
--- `Endpoint::failed` meets its contract: the book is closed, and the notice is by whether a bearer is in force.
+-- `Endpoint::failed` meets its contract: the book is closed, and the notice says whether a bearer is in force.
 -- Assumes nothing.
 use borrow.Author.Needs.{needs}
 use Rattle.endpoint.proofs.VerdictLaws.{gave-failed}

@@ -1,4 +1,4 @@
--- `Endpoint::hear_accepted` meets its contract: discarded, or taken or wrong as it is judged.
+-- `Endpoint::hear_accepted` meets its contract: discarded, or judged right or wrong.
 -- Assumes nothing.
 use borrow.Author.Needs.{needs}
 use Rattle.endpoint.proofs.MessageLaws.{heard-unawaited, heard-awaited, taken-right, taken-wrong, agreed-held, kept-inside}

@@ -1,4 +1,4 @@
--- `Endpoint::hear_declined` meets its contract: the attempt fails, where there is one.
+-- `Endpoint::hear_declined` meets its contract: the attempt fails, if one is open.
 -- Assumes nothing.
 use borrow.Author.Needs.{needs}
 use Rattle.endpoint.proofs.MessageLaws.{heard-awaited, heard-unawaited}

@@ -1,4 +1,4 @@
--- `Endpoint::hear_request` meets its contract: discarded, or accepted or rejected as it is judged.
+-- `Endpoint::hear_request` meets its contract: discarded, or judged, and accepted or rejected.
 -- Assumes nothing.
 use borrow.Author.Needs.{needs}
 use Rattle.endpoint.proofs.MessageLaws.{heard-ignored, heard-judged, judged-right, judged-wrong}

@@ -1,4 +1,4 @@
--- `Endpoint::message` meets its contract: by what it is heard as, where the buffer is long enough.
+-- `Endpoint::message` meets its contract: by what it is heard as, if the buffer is long enough.
 -- Assumes nothing.
 use borrow.Author.Needs.{needs}
 use Rattle.endpoint.proofs.EventLaws.{did-short}

@@ -1,4 +1,4 @@
--- `Endpoint::opening` meets its contract: the Request is put in the place of the old one, and the bearer stays.
+-- `Endpoint::opening` meets its contract: the Request replaces the old one, and the bearer stays.
 -- Assumes nothing.
 use borrow.Author.Needs.{needs}
 use Rattle.endpoint.proofs.VerdictLaws.{same-opening}

@@ -1,4 +1,4 @@
--- `Endpoint::release` meets its contract: by the state, where the buffer is long enough.
+-- `Endpoint::release` meets its contract: by the state, if the buffer is long enough.
 -- Assumes nothing.
 use borrow.Author.Needs.{needs}
 use Rattle.endpoint.proofs.EventLaws.{did-short, did-silent}

@@ -1,4 +1,4 @@
--- `Endpoint::request_confused` meets its contract: the endpoint is handed back, with what was written.
+-- `Endpoint::request_confused` meets its contract: the endpoint is returned as it was, with the octets that were written.
 -- Assumes nothing.
 use borrow.Author.Needs.{needs}
 use Rattle.endpoint.proofs.VerdictLaws.{gave-confused}

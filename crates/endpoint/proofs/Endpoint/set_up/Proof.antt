@@ -1,4 +1,4 @@
--- `Endpoint::set_up` meets its contract: a command in idle, else number 11, where the buffer is long enough.
+-- `Endpoint::set_up` meets its contract: a command in idle, otherwise number 11, if the buffer is long enough.
 -- Assumes nothing.
 use borrow.Author.Needs.{needs}
 use Rattle.endpoint.proofs.EventLaws.{did-short, did-silent, did}

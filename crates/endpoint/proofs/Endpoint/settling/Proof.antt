@@ -1,4 +1,4 @@
--- `Endpoint::settling` meets its contract: the bearer is put in the place of the old one.
+-- `Endpoint::settling` meets its contract: the bearer replaces the old one.
 -- Assumes nothing.
 use borrow.Author.Needs.{needs}
 use Rattle.endpoint.proofs.VerdictLaws.{same-settling}

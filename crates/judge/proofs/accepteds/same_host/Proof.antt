@@ -1,4 +1,4 @@
--- `accepteds::same_host` meets its contract: the address is tested where a bearer is held.
+-- `accepteds::same_host` meets its contract: the address is tested if a bearer is held.
 -- Assumes nothing.
 use borrow.Author.Needs.{needs}
 use Rattle.judge.proofs.AcceptedLaws.{hosts}

@@ -1,4 +1,4 @@
--- `commands::offer` meets its contract: the name has room behind the two words, which are 12 octets.
+-- `commands::offer` meets its contract: the name has room after the two words, which are 12 octets.
 -- Assumes nothing.
 use borrow.Author.Needs.{needs}
 use Rattle.judge.proofs.CommandLaws.{appends-low, offer-is}

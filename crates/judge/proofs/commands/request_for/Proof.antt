@@ -1,4 +1,4 @@
--- `commands::request_for` meets its contract: a Request is made where the three fields suit.
+-- `commands::request_for` meets its contract: the command's Request is made if the three fields suit, otherwise one for the blank entry.
 -- Assumes nothing.
 use borrow.Author.Needs.{needs}
 use Rattle.judge.proofs.CommandLaws.{command-suits, command-in-range, commands}

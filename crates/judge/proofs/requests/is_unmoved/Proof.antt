@@ -1,4 +1,4 @@
--- `requests::is_unmoved` meets its contract: address and port are tested where a bearer is held.
+-- `requests::is_unmoved` meets its contract: address and port are tested if a bearer is held.
 -- Assumes nothing.
 use borrow.Author.Needs.{needs}
 use Rattle.judge.proofs.RequestLaws.{unmoveds}
