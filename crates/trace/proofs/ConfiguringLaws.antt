@@ -9,6 +9,7 @@ use lib.ListN.{length}
 use lib.Dec.{eqb}
 use native.Mathlib.Omega.{arith}
 use borrow.Author.Tests.{ne-eqb}
+use Rattle.octets.specs.Chain.{when}
 use Rattle.octets.specs.Append.{Appends}
 use Rattle.octets.proofs.CaseLaws.{by-bool}
 use Rattle.octets.proofs.AppendLaws.{append-then}
@@ -22,7 +23,6 @@ use Rattle.endpoint.specs.declared.Endpoint.{Endpoint}
 use Rattle.endpoint.specs.declared.Created.{Created}
 use Rattle.endpoint.specs.Step.{freshEndpoint, Creates}
 use Rattle.trace_read.specs.declared.Configured.{Configured}
-use Rattle.trace_read.specs.Words.{when}
 use Rattle.trace_read.specs.Configuring.{isCodecLine, codecIn, generalIn}
 use Rattle.trace_read.specs.Meaning.{configuredBy, Configures}
 use Rattle.trace_write.specs.Lines.{headerLine, refusedLine}

@@ -10,6 +10,7 @@ use lib.Seq.{take-at, length-take-le}
 use native.Mathlib.Omega.{arith}
 use borrow.Rule.Slice.PartMut.{midOf, putMid}
 use borrow.Author.Tests.{lt-ltb, le-ltb}
+use Rattle.octets.specs.Chain.{when}
 use Rattle.octets.specs.Append.{Appends}
 use Rattle.octets.specs.Text.{lf}
 use Rattle.octets.proofs.AppendLaws.{append-then}
@@ -40,7 +41,7 @@ use Rattle.notation.proofs.OctetsLaws.{read-back, read-wrong}
 use Rattle.trace_read.specs.declared.Asked.{Asked}
 use Rattle.trace_read.specs.declared.Asked.the-variants as reading
 use Rattle.trace_read.specs.declared.Lent as places
-use Rattle.trace_read.specs.Words.{mostLine, when}
+use Rattle.trace_read.specs.Words.{mostLine}
 use Rattle.trace_read.specs.Events.{lineEvent, messageBy}
 use Rattle.trace_read.specs.Lending.{lentIn}
 use Rattle.trace_read.specs.Meaning.{askedBy, Asks, lentBy}

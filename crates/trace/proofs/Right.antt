@@ -10,6 +10,7 @@ use lib.ListN.{length, length-append}
 use lib.Dec.{eqb, ltb}
 use native.Mathlib.Omega.{arith}
 use borrow.Author.Tests.{le-leb, ltb-true, eqb-false}
+use Rattle.octets.specs.Chain.{when}
 use Rattle.octets.specs.declared.Number.{Number}
 use Rattle.octets.specs.declared.Number.the-variants.{Value, Bad}
 use Rattle.octets.specs.Decimal.{allDigits, readNumber, onNumber}
@@ -21,7 +22,7 @@ use Rattle.address.specs.declared.Parsed.the-variants.{Unicast, Unreadable}
 use Rattle.address.specs.Kinds.{onParsed}
 use Rattle.configuration.specs.Configuration.{Codec, fixed, named, Configuration, mostCodecs, rightCodec, allRight, rightCodecs, rightGeneral, rightConfiguration}
 use Rattle.trace_read.specs.Configuring.{hostIn, general, usable, generalFields, generalOf, generalIn, rightly, payloadOf, codecOf, withCodec, addedTo, codecFor, codecIn, isCodecLine}
-use Rattle.trace_read.specs.Words.{fieldsOf, firstIs, when, generalWord}
+use Rattle.trace_read.specs.Words.{fieldsOf, firstIs, generalWord}
 use Rattle.trace.specs.Trace.{Trace, start, configuring, running, stopped, TraceLine, verdictEffect, eventEffect, configuringEffect, noCodec, firstEffect, lineEffect}
 use Rattle.trace.specs.declared.Phase.the-variants.{Running}
 use Rattle.trace.specs.declared.Session.{Session}

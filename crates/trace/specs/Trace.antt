@@ -7,6 +7,7 @@ use mathlib.Core.Bool.{Bool, cond}
 use mathlib.Core.Option.{Option, none, some}
 use lib.ListN.{length, take, drop}
 use lib.Dec.{eqb, ltb}
+use Rattle.octets.specs.Chain.{when}
 use Rattle.octets.specs.Text.{lf}
 use Rattle.book.specs.declared.State.{State}
 use Rattle.book.specs.Book.{idle, refusal, done, stateOf, settled, refused, moved, replied}
@@ -16,7 +17,6 @@ use Rattle.bearer.specs.Bearer.{Bearer}
 use Rattle.endpoint.specs.declared.Reply.{Reply}
 use Rattle.endpoint.specs.Rule.{Book, Verdict, Event, rule}
 use Rattle.endpoint.specs.Step.{replyFor, outFor}
-use Rattle.trace_read.specs.Words.{when}
 use Rattle.trace_read.specs.Events.{lineEvent}
 use Rattle.trace_read.specs.Configuring.{generalIn, isCodecLine, codecIn}
 use Rattle.trace_read.specs.Lending.{lentIn}

@@ -2,10 +2,10 @@
 ghost use mathlib.Core.Path.{_≡_};
 ghost use mathlib.Core.Bool.{not};
 ghost use mathlib.Core.Option.{none};
+ghost use Rattle.octets.specs.Chain.{when};
 ghost use Rattle.octets.specs.Append.{Appends};
 ghost use Rattle.configuration.specs.Meaning.{configurationBy};
 ghost use Rattle.endpoint.specs.Step.{freshEndpoint};
-ghost use Rattle.trace_read.specs.Words.{when};
 ghost use Rattle.trace_read.specs.Configuring.{generalIn, codecIn};
 ghost use Rattle.trace.specs.Trace.{lineOf, noCodec, firstEffect, lineEffect, ending};
 ghost use Rattle.trace.specs.Meaning.{configurationOf, traceIn, Does};

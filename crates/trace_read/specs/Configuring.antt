@@ -5,6 +5,7 @@ use mathlib.Core.Bool.{Bool, _&&_, cond}
 use mathlib.Core.Option.{Option, none, some, Option·elim}
 use lib.ListN.{length}
 use lib.Dec.{eqb, ltb}
+use Rattle.octets.specs.Chain.{when, number}
 use Rattle.octets.specs.Decimal.{allDigits}
 use Rattle.octets.specs.Split.{partAt}
 use Rattle.address.specs.declared.Address.{Address}
@@ -14,7 +15,7 @@ use Rattle.address.specs.Kinds.{onParsed}
 use Rattle.address.specs.Ipv4.{readV4}
 use Rattle.address.specs.Ipv6.{readV6}
 use Rattle.configuration.specs.Configuration.{Codec, fixed, named, Configuration, mostCodecs, rightCodec, rightGeneral}
-use Rattle.trace_read.specs.Words.{fieldsOf, firstIs, when, number, generalWord, codecWord}
+use Rattle.trace_read.specs.Words.{fieldsOf, firstIs, generalWord, codecWord}
 
 -- ---- `G`: own address, port, least and greatest packet time, T1 and T2
 -- an address of either family

@@ -5,10 +5,11 @@ use mathlib.Core.Bool.{cond}
 use mathlib.Core.Option.{Option, some}
 use lib.ListN.{length}
 use lib.Dec.{eqb, ltb}
+use Rattle.octets.specs.Chain.{when, number}
 use Rattle.octets.specs.Hex.{isHex, hexOctets}
 use Rattle.octets.specs.Split.{partAt}
 use Rattle.endpoint.specs.Rule.{Event, setUp, change, release, t1, t2, message}
-use Rattle.trace_read.specs.Words.{fieldsOf, firstIs, mostLine, when, number, setUpWord, changeWord, releaseWord, t1Word, t2Word, messageWord}
+use Rattle.trace_read.specs.Words.{fieldsOf, firstIs, mostLine, setUpWord, changeWord, releaseWord, t1Word, t2Word, messageWord}
 
 -- one field: a release or a timer
 unfoldable pub bareOf : List (List ℕ) → Option Event

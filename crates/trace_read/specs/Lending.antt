@@ -5,12 +5,12 @@ use mathlib.Core.List.{List, [], _∷_}
 use mathlib.Core.Bool.{Bool, _&&_}
 use mathlib.Core.Option.{Option, none, some, Option·elim}
 use lib.ListN.{length, drop}
+use Rattle.octets.specs.Chain.{when}
 use Rattle.octets.specs.Decimal.{onNumber}
 use Rattle.octets.specs.Split.{has, before}
 use Rattle.octets.specs.Text.{char, tab}
 use Rattle.octets.specs.Words.{begins}
 use Rattle.notation.specs.Notation.{lengthIn}
-use Rattle.trace_read.specs.Words.{when}
 
 -- how a line begins that says the length of the buffer
 abbrev pub lendWord : List ℕ

@@ -5,6 +5,7 @@ use mathlib.Core.List.{List, []}
 use mathlib.Core.Bool.{Bool, true}
 use mathlib.Core.Option.{Option, none, some}
 use lib.ListN.{length, drop}
+use Rattle.octets.specs.Chain.{when}
 use Rattle.configuration.specs.Configuration.{Configuration}
 use Rattle.configuration.specs.Meaning.{configurationBy, configInside}
 use Rattle.endpoint.specs.Rule.{Event}
@@ -13,7 +14,7 @@ use Rattle.trace_read.specs.declared.Asked.{Asked}
 use Rattle.trace_read.specs.declared.Asked.the-variants.{Event as Named, Digits, Nothing}
 use Rattle.trace_read.specs.declared.Configured.{Configured}
 use Rattle.trace_read.specs.declared.Lent as places
-use Rattle.trace_read.specs.Words.{mostLine, when}
+use Rattle.trace_read.specs.Words.{mostLine}
 use Rattle.trace_read.specs.Events.{lineEvent, messageBy}
 use Rattle.trace_read.specs.Lending.{Lent}
 

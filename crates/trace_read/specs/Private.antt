@@ -5,6 +5,7 @@ use mathlib.Core.List.{List}
 use mathlib.Core.Bool.{true, cond}
 use mathlib.Core.Option.{Option, none}
 use lib.Dec.{leb}
+use Rattle.octets.specs.Chain.{number}
 use Rattle.octets.specs.Decimal.{readNumber, onNumber}
 use Rattle.octets.specs.Split.{partAt}
 use Rattle.address.specs.declared.Address.{Address}
@@ -18,7 +19,6 @@ use Rattle.trace_read.specs.declared.configure.Small.the-variants as sma
 use Rattle.trace_read.specs.declared.configure.FourNumbers.{FourNumbers}
 use Rattle.trace_read.specs.declared.configure.FourNumbers.the-variants as four
 use Rattle.trace_read.specs.declared.Configured.{Configured}
-use Rattle.trace_read.specs.Words.{number}
 use Rattle.trace_read.specs.Configuring.{general, usable}
 use Rattle.trace_read.specs.Meaning.{configuredBy}
 

@@ -1,9 +1,7 @@
 -- Document 01, "Trace program": the fields of a line, with tabs between them, the words of the first one, and the longest line.
 use Prim.Native.Nat.{ℕ}
 use mathlib.Core.List.{List}
-use mathlib.Core.Bool.{Bool, cond}
-use mathlib.Core.Option.{Option, none}
-use Rattle.octets.specs.Decimal.{readNumber, onNumber}
+use mathlib.Core.Bool.{Bool}
 use Rattle.octets.specs.Split.{splitOn, partAt}
 use Rattle.octets.specs.Text.{ascii, tab}
 use Rattle.octets.specs.Words.{same}
@@ -18,15 +16,6 @@ firstIs word ps = same word (partAt 0 ps)
 -- the most octets of a line, with its LF
 abbrev pub mostLine : ℕ
 mostLine = 1200
-
--- ---- reading step by step: the first fault gives `none`
--- x, if b holds
-abbrev pub when : {X : Type 0} → Bool → Option X → Option X
-when b x = cond b x none
-
--- go on with the number that t is: at most 65535, with no leading zero
-abbrev pub number : {X : Type 0} → List ℕ → (ℕ → Option X) → Option X
-number t go = onNumber (readNumber t) go none
 
 -- ---- the first words of lines that configure
 abbrev pub generalWord : List ℕ
