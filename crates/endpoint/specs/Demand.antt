@@ -39,8 +39,8 @@ pub data Runs (e : Endpoint) : List Given → List LogLine → Endpoint → Type
   after : {gs : List Given} {ls : List LogLine} {f : Endpoint} → Runs e gs ls f → (x : Event) (buffer out : List ℕ) (r : Answer) → Did f x buffer out r
       → Runs e (gs ++ (record { event = x; room = length buffer } ∷ [])) (ls ++ (seen x buffer out r ∷ [])) (r .endpoint)
 
--- There is always a run, so nothing below is claimed of no run at all: for every endpoint, event and buffer some answer meets `Did`
--- (`answer-exists` in `proofs/RunsExist.antt`), and so a run leads from every endpoint through every list of events (`run-exists`).
+-- Such runs exist, so the claim below is not an empty one: for every endpoint, event and buffer some answer meets `Did`
+-- (`answer-exists` in `proofs/RunsExist.antt`), and from every endpoint there is a run through every list of events (`run-exists`).
 pub record HasAnswer (e : Endpoint) (x : Event) (buffer : List ℕ) : Type 0 where
   pub out : List ℕ
   pub answer : Answer
@@ -67,8 +67,8 @@ pub record Demand3 (c : Config) (gs : List Given) (ls : List LogLine) (f : Endpo
   pub by-book : ls ≡ logOf (rule (configurationBy c)) gs .lines
   -- the lines that are left are lines of this run, in the same order
   pub part : Sublistᴰ (kept c gs) ls
-  -- another fresh endpoint, given the events that are left, shows the same lines, so with the same bearer in force after each; none of
-  -- them drops a change of ours, since a change that was dropped is struck
+  -- another fresh endpoint, given the events that are left, shows the same lines, each with the same bearer in force after it; none of
+  -- them says `dropped`, since a change that was dropped is struck
   pub same-lines : (e′ : Endpoint) (ls′ : List LogLine) (f′ : Endpoint) → Fresh c e′ → Runs e′ (eventsOf (kept c gs)) ls′ f′ → ls′ ≡ map undropped (kept c gs)
   -- and it ends with the same bearer in force
   pub same-bearer : (e′ : Endpoint) (ls′ : List LogLine) (f′ : Endpoint) → Fresh c e′ → Runs e′ (eventsOf (kept c gs)) ls′ f′ → settled (bookOf f′) ≡ settled (bookOf f)

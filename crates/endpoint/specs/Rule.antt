@@ -46,8 +46,8 @@ abbrev pub commandVerdict : Configuration → Option Stream → Verdict
 commandVerdict c none = refused 5
 commandVerdict c (some q) = ifWritable (messageOctets (c .own) (requestContent q)) (λ o. opened q o)
 
--- ---- an Accepted for our open Request q, where `force` is the bearer in force and d the bearer that the Accepted names, if it can
--- be read: a right one settles its bearer, any other ends the attempt
+-- ---- an Accepted for our open Request q: a right one settles its bearer, any other ends the attempt
+-- `force` is the bearer in force, if there is one; the last argument is the bearer that the message names, if it can be read
 abbrev pub acceptedVerdict : Configuration → Option Bearer → Stream → Option Bearer → Verdict
 acceptedVerdict c force q none = failed
 acceptedVerdict c force q (some d) = cond (rightAccepted c force q d) (agreed d) failed
@@ -62,7 +62,7 @@ answerAccepted c d = ifWritable (messageOctets (c .own) (acceptedContent (accept
 abbrev pub answerRejected : Configuration → Verdict
 answerRejected c = ifWritable (messageOctets (c .own) rejectedContent) (λ o. requestWrong o)
 
--- one of version 1 is judged, where `force` is the bearer in force and d the bearer that it names, if it can be read
+-- one of version 1 is judged: right, Accepted; wrong or unreadable, Rejected. The arguments are as above
 abbrev pub requestVerdict : Configuration → Option Bearer → Option Bearer → Verdict
 requestVerdict c force none = answerRejected c
 requestVerdict c force (some d) = cond (rightRequest c force d) (answerAccepted c d) (answerRejected c)
@@ -115,8 +115,8 @@ leastRoom = 512
 unfoldable pub rule : Configuration → Book → Given → Verdict
 rule c k g = cond (ltb (g .room) leastRoom) (refused 4) (eventVerdict c k (g .event))
 
--- ---- the bearer that an event puts in force if its exchange succeeds: of a Request the one that we grant, of an Accepted the one
--- that it names
+-- ---- the bearer that an event puts in force if its exchange succeeds
+-- for a Request the one that we grant, for an Accepted the one that it names
 abbrev pub grantedIn : Configuration → Option Bearer → Option Bearer
 grantedIn c none = none
 grantedIn c (some d) = some (granted c d)
