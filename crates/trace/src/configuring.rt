@@ -88,7 +88,8 @@ impl Session {
 
     // A `K` line.
     fn add(self, line: &[u8], whole: bool, out: &mut [u8], at: usize) -> Stepped
-        ensures { λ r. ⌜ Goes (self .endpoint) (when whole (codecIn (configurationOf self) (now (line .entry)))) (now (out .entry)) (now (out .exit)) at r ⌝ }
+        ensures { λ r. ⌜ Goes (self .endpoint) (when whole (codecIn (configurationOf self) (now (line .entry))))
+            (now (out .entry)) (now (out .exit)) at r ⌝ }
     {
         if whole {
             let endpoint = self.endpoint;
@@ -114,7 +115,8 @@ impl Session {
         out: &mut [u8],
         at: usize,
     ) -> Stepped
-        ensures { λ r. ⌜ Does (self .endpoint) (firstEffect detailed (configurationOf self) (lineOf (now (line .entry)) whole) (now (room .entry)))
+        ensures { λ r. ⌜ Does (self .endpoint)
+            (firstEffect detailed (configurationOf self) (lineOf (now (line .entry)) whole) (now (room .entry)))
             (now (room .exit)) (now (out .entry)) (now (out .exit)) at r ⌝ }
     {
         let before = self.endpoint;
@@ -138,7 +140,8 @@ impl Session {
         out: &mut [u8],
         at: usize,
     ) -> Stepped
-        ensures { λ r. ⌜ Does (self .endpoint) (lineEffect detailed (traceIn Phase.Configuring self) (lineOf (now (line .entry)) whole) (now (room .entry)))
+        ensures { λ r. ⌜ Does (self .endpoint)
+            (lineEffect detailed (traceIn Phase.Configuring self) (lineOf (now (line .entry)) whole) (now (room .entry)))
             (now (room .exit)) (now (out .entry)) (now (out .exit)) at r ⌝ }
     {
         if is_codec_line(line) {

@@ -73,7 +73,8 @@ fn give(endpoint: Endpoint, event: Event, m: &[u8], room: &mut [u8], w: usize) -
 
 // Appends the octets written and the bearer in force, if the trace is detailed.
 fn push_more(detailed: bool, s: &[u8], state: State, b: Bearer, out: &mut [u8], at: usize) -> usize
-    ensures { λ r. ⌜ Appends (now (out .entry)) at (detailIf detailed (now (s .entry)) (bearerIf (holdsAt state) (bearerBy b))) r (now (out .exit)) ⌝ }
+    ensures { λ r. ⌜ Appends (now (out .entry)) at
+        (detailIf detailed (now (s .entry)) (bearerIf (holdsAt state) (bearerBy b))) r (now (out .exit)) ⌝ }
 {
     if detailed {
         return push_detail(s, holds(state), b, out, at);
@@ -83,7 +84,8 @@ fn push_more(detailed: bool, s: &[u8], state: State, b: Bearer, out: &mut [u8], 
 
 // Appends what a detailed trace adds, and the LF.
 fn push_end(detailed: bool, s: &[u8], endpoint: Endpoint, out: &mut [u8], at: usize) -> usize
-    ensures { λ r. ⌜ Appends (now (out .entry)) at (detailIf detailed (now (s .entry)) (forceBy endpoint) ++ (lf ∷ [])) r (now (out .exit)) ⌝ }
+    ensures { λ r. ⌜ Appends (now (out .entry)) at
+        (detailIf detailed (now (s .entry)) (forceBy endpoint) ++ (lf ∷ [])) r (now (out .exit)) ⌝ }
 {
     let state = endpoint.state;
     let b = endpoint.bearer;
@@ -139,7 +141,8 @@ fn handle(
     out: &mut [u8],
     at: usize,
 ) -> Stepped
-    ensures { λ r. ⌜ Does endpoint (effectOn detailed endpoint n (some (eventBy event (now (m .entry)))) (now (room .entry)) wanted)
+    ensures { λ r. ⌜ Does endpoint
+        (effectOn detailed endpoint n (some (eventBy event (now (m .entry)))) (now (room .entry)) wanted)
         (now (room .exit)) (now (out .entry)) (now (out .exit)) at r ⌝ }
 {
     let state = endpoint.state;
@@ -209,7 +212,8 @@ impl Session {
         out: &mut [u8],
         at: usize,
     ) -> Stepped
-        ensures { λ r. ⌜ Does (self .endpoint) (lineEffect detailed (traceIn Phase.Running self) (lineOf (now (line .entry)) whole) (now (room .entry)))
+        ensures { λ r. ⌜ Does (self .endpoint)
+            (lineEffect detailed (traceIn Phase.Running self) (lineOf (now (line .entry)) whole) (now (room .entry)))
             (now (room .exit)) (now (out .entry)) (now (out .exit)) at r ⌝ }
     {
         let lent = lend(detailed, line);

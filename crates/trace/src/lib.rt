@@ -59,7 +59,8 @@ impl Session {
         out: &mut [u8],
         at: usize,
     ) -> Stepped
-        ensures { λ r. ⌜ Does (self .endpoint) (lineEffect detailed (traceBy self) (lineOf (now (line .entry)) whole) (now (room .entry)))
+        ensures { λ r. ⌜ Does (self .endpoint)
+            (lineEffect detailed (traceBy self) (lineOf (now (line .entry)) whole) (now (room .entry)))
             (now (room .exit)) (now (out .entry)) (now (out .exit)) at r ⌝ }
     {
         let phase = self.phase;
