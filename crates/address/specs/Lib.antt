@@ -1,4 +1,4 @@
--- What the contracts of this crate speak of, a file for each subject. `Back` is for theorems; `Private` is used only by
+-- The definitions that the contracts of this crate use, a file for each subject. `Back` is for theorems; `Private` is used only by
 -- functions that are not public.
 pub mod Kinds
 pub mod Parts

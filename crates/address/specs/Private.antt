@@ -1,4 +1,4 @@
--- Private: used only by functions of this crate that are not public, for values on the way to an address or its text.
+-- Private: used only by private functions of this crate, for values on the way to an address or its text.
 use Prim.Native.Nat.{ℕ, _+_, _*_, _/_, _%_, _^_, _≤_}
 use mathlib.Core.Path.{_≡_}
 use mathlib.Core.List.{List, [], _∷_, map}

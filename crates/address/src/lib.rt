@@ -12,7 +12,7 @@ pub enum Address {
     V6 { high: u64, low: u64 },
 }
 
-// What a text was read as: the address of one host, or none that the card can use.
+// What a text was read as: a unicast address, or none that the card can use.
 pub enum Parsed {
     Unicast(Address),
     Unreadable,
@@ -27,7 +27,7 @@ const POWER_48: u64 = 1 << 48;
 
 const POWER_56: u64 = 1 << 56;
 
-// The address is that of one host.
+// The address is unicast.
 pub fn is_unicast(a: Address) -> bool
     ensures { λ r. ⌜ r ≡ isUnicast a ⌝ }
 {

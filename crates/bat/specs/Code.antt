@@ -1,7 +1,7 @@
 -- The code's types and their variants under one word: after `use .. Code as code` they are `code.Value`, `code.Action` and
 -- so on. A type of the code and a type of the definitions that share a name are the same thing: the code's has spans,
 -- which are places in octets, and the definitions' has the octets. (`bat_read` and `bat_write` have a `Code` of their own:
--- a crate passes names of another on only to itself.)
+-- names that a crate re-exports from another can be used only inside it.)
 pub use Rattle.bat.specs.declared.Size.{Size}
 pub use Rattle.bat.specs.declared.Size.the-variants.{Of, Missing}
 pub use Rattle.bat.specs.declared.Frame.{Frame}

@@ -83,8 +83,8 @@ abbrev pub wrong : Decoding
 wrong = unrecognised Itself
 
 -- x if b holds, otherwise wrong
-abbrev pub when : Bool → Decoding → Decoding
-when b x = cond b x wrong
+abbrev pub orWrong : Bool → Decoding → Decoding
+orWrong b x = cond b x wrong
 
 -- bits 7 to 1 of a compatibility octet; bit 8 only says whether another follows
 abbrev pub meant : ℕ → ℕ
@@ -101,15 +101,15 @@ sixteenBits s = octet 0 s * 256 + octet 1 s
 -- ---- simple elements
 -- 1, action (4.6.1.3): a single octet, an action code
 unfoldable pub actionIn : List ℕ → Decoding
-actionIn s = when (eqb (length s) 1) (when (isAction (octet 0 s)) (decoded (action (octet 0 s))))
+actionIn s = orWrong (eqb (length s) 1) (orWrong (isAction (octet 0 s)) (decoded (action (octet 0 s))))
 
 -- 2, backbone connection identifier (4.6.1.4): at least one octet, at most four
 unfoldable pub backboneIn : List ℕ → Decoding
-backboneIn s = when (leb 1 (length s) && leb (length s) 4) (decoded (backbone s))
+backboneIn s = orWrong (leb 1 (length s) && leb (length s) 4) (decoded (backbone s))
 
 -- 3, address of the interworking function (4.6.1.5): at least one octet, at most twenty
 unfoldable pub addressIn : List ℕ → Decoding
-addressIn s = when (leb 1 (length s) && leb (length s) 20) (decoded (address s))
+addressIn s = orWrong (leb 1 (length s) && leb (length s) 20) (decoded (address s))
 
 -- 5, single codec (4.6.1.7): an organisation, at most 2, and at least one octet of codec information. For the ITU-T (1)
 -- the information begins with a type, at most 12, and types 1 to 6 have no configuration. Any other configuration is
@@ -125,7 +125,7 @@ abbrev pub singleCodec : List ℕ → SingleCodec
 singleCodec s = record { organisation = octet 0 s; information = drop 1 s }
 
 unfoldable pub singleIn : List ℕ → Decoding
-singleIn s = when (rightSingle (singleCodec s)) (decoded (single (singleCodec s)))
+singleIn s = orWrong (rightSingle (singleCodec s)) (decoded (single (singleCodec s)))
 
 -- 6, compatibility report (4.6.1.8): a reason, with any code, and any number of diagnostics, each an identifier and a
 -- 16-bit index
@@ -142,26 +142,26 @@ reportIn (r ∷ s) = Option·elim (diagnosticsIn s) wrong (λ ds. decoded (repor
 
 -- 7, bearer network connection characteristics (4.6.1.9): a single octet, at most 4
 unfoldable pub characteristicsIn : List ℕ → Decoding
-characteristicsIn s = when (eqb (length s) 1) (when (leb (octet 0 s) 4) (decoded (characteristics (octet 0 s))))
+characteristicsIn s = orWrong (eqb (length s) 1) (orWrong (leb (octet 0 s) 4) (decoded (characteristics (octet 0 s))))
 
 -- 8, bearer control information (4.6.1.10): any octets, at least one
 unfoldable pub controlIn : List ℕ → Decoding
-controlIn s = when (leb 1 (length s)) (decoded (control s))
+controlIn s = orWrong (leb 1 (length s)) (decoded (control s))
 
 -- 9, bearer control tunnelling (4.6.1.11): a single octet; bits 8 to 2 are ignored
 unfoldable pub tunnellingIn : List ℕ → Decoding
-tunnellingIn s = when (eqb (length s) 1) (decoded (tunnelling (bit1 (octet 0 s))))
+tunnellingIn s = orWrong (eqb (length s) 1) (decoded (tunnelling (bit1 (octet 0 s))))
 
 -- 10, bearer control unit identifier (4.6.1.12): the length of the network id, which may be 0, the network id, and a
 -- local id, which is not empty
 unfoldable pub unitIn : List ℕ → Decoding
 unitIn [] = wrong
-unitIn (n ∷ s) = when (ltb n (length s)) (decoded (controlUnit (take n s) (drop n s)))
+unitIn (n ∷ s) = orWrong (ltb n (length s)) (decoded (controlUnit (take n s) (drop n s)))
 
 -- 12, bearer redirection capability (4.6.1.14): the first octet with bit 8 set is the last one; the capability is
 -- bit 1 of the first octet
 unfoldable pub capabilityIn : List ℕ → Decoding
-capabilityIn s = when (eqb (suc (unmarked s)) (length s)) (decoded (capability (bit1 (octet 0 s))))
+capabilityIn s = orWrong (eqb (suc (unmarked s)) (length s)) (decoded (capability (bit1 (octet 0 s))))
 
 -- 13, bearer redirection indicators (4.6.1.15): one to sixteen indicator codes
 unfoldable pub allIndicators : List ℕ → Bool
@@ -172,18 +172,18 @@ unfoldable pub rightIndicators : List ℕ → Bool
 rightIndicators s = leb 1 (length s) && leb (length s) 16 && allIndicators s
 
 unfoldable pub indicatorsIn : List ℕ → Decoding
-indicatorsIn s = when (rightIndicators s) (decoded (indicators s))
+indicatorsIn s = orWrong (rightIndicators s) (decoded (indicators s))
 
 -- 14, signal type (4.6.1.16): a single octet, a signal code
 unfoldable pub rightType : List ℕ → Bool
 rightType s = eqb (length s) 1 && isSignal (octet 0 s)
 
 unfoldable pub typeIn : List ℕ → Decoding
-typeIn s = when (rightType s) (decoded (signalType (octet 0 s)))
+typeIn s = orWrong (rightType s) (decoded (signalType (octet 0 s)))
 
 -- 15, duration (4.6.1.17): sixteen bits
 unfoldable pub durationIn : List ℕ → Decoding
-durationIn s = when (eqb (length s) 2) (decoded (duration (sixteenBits s)))
+durationIn s = orWrong (eqb (length s) 2) (decoded (duration (sixteenBits s)))
 
 -- ---- constructors
 -- A constructor is decoded only if all of its inner elements are right. An empty one is itself at fault. Otherwise the

@@ -84,8 +84,8 @@ pub enum Value {
     Duration(u16),
 }
 
-// What is at fault in an unrecognised element: itself, or first the inner element whose identifier is at this
-// place of its contents.
+// What is at fault in an unrecognised element: the element itself, or its first faulty inner element, given by the
+// place of that one's identifier in the contents.
 pub enum Place {
     Itself,
     Inner(usize),

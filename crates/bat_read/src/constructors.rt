@@ -30,7 +30,7 @@ fn is_single(s: &[u8], f: Frame) -> bool
     bat::ranges::is_codec(bat::framing::contents(s, f))
 }
 
-// Where the first element of s is that is no single codec; octets that can't be framed count as one.
+// The place of the first element of s that is not a single codec; octets that can't be framed count as one.
 pub fn find_offence(s: &[u8]) -> Offence
     ensures { λ r. ⌜ r ≡ offenceOf (codecsIn (now (s .entry))) ⌝ }
 {

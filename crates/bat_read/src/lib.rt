@@ -46,7 +46,7 @@ enum Own {
     ListsNone,
 }
 
-// Where the first inner element is that is no single codec, if there is one.
+// The place of the first inner element that is not a single codec, if there is one.
 pub enum Offence {
     At(usize),
     Nowhere,

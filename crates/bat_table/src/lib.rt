@@ -1,4 +1,4 @@
-// The caller's table of element entries, filled in order. Functions over a table are proved by hand, by a walk of
+// The caller's table: one entry for each element, from the front. Functions over a table are proved by hand, by a walk of
 // their code, so they are few and short. Everything that looks at the data is in `bat::framing` and in `steps`.
 mod steps;
 

@@ -1,5 +1,5 @@
--- What the contracts of this crate speak of: `Packet`, by document 01; `Meaning` for the code's answer. `Back` is for theorems;
--- `Private` is used only by functions that are not public.
+-- The definitions that the contracts of this crate use: `Packet`, by document 01; `Meaning` for the code's answer. `Back` is for theorems;
+-- `Private` is used only by private functions.
 pub mod Packet
 pub mod Meaning
 pub mod Back

@@ -45,7 +45,8 @@ offered c k payload ptime = record {
   ptime = ptime;
 }
 
--- a command names a codec entry, a payload that suits it, and a packet time in range or 0 for none; otherwise it has no Request
+-- the Request that a command asks for; none if there is no such entry, if the payload does not suit it, or if the packet time is
+-- neither 0 nor in range
 unfoldable pub commanded : Configuration → ℕ → ℕ → ℕ → Option Stream
 commanded c entry payload ptime =
     Option·elim (entryIn (c .codecs) entry) none
@@ -65,7 +66,7 @@ rightStream c s = same audio (s .media) && (same rtpAvp (s .transport) && namedI
 unfoldable pub rightRequest : Configuration → Option Bearer → Bearer → Bool
 rightRequest c force d = sameFamily (c .own) (d .address) && (rightStream c (d .stream) && unmoved force d)
 
--- a packet time moved to the nearest value in range; 0, for none, stays 0
+-- a packet time brought into range; 0, for none, stays 0
 unfoldable pub nearest : Configuration → ℕ → ℕ
 nearest c n = cond (eqb n 0) 0 (cond (ltb n (c .least)) (c .least) (cond (ltb (c .most) n) (c .most) n))
 
@@ -97,12 +98,12 @@ sameOffer q s =
     && (same (q .transport) (s .transport) && (eqb (q .payload) (s .payload) && same (q .rtpmap) (s .rtpmap)))
 
 -- for a change, the peer's address is as in force; its port may differ
-unfoldable pub sameHost : Option Bearer → Bearer → Bool
-sameHost none d = true
-sameHost (some b) d = sameAddress (b .address) (d .address)
+unfoldable pub unmovedAddress : Option Bearer → Bearer → Bool
+unmovedAddress none d = true
+unmovedAddress (some b) d = sameAddress (b .address) (d .address)
 
 -- the Accepted that names d: family ours, all as in the Request, packet time absent or in range, address as in force
 unfoldable pub rightAccepted : Configuration → Option Bearer → Stream → Bearer → Bool
 rightAccepted c force q d =
     sameFamily (c .own) (d .address)
-    && (sameOffer q (d .stream) && (ptimeNoneOrInRange c (d .stream .ptime) && sameHost force d))
+    && (sameOffer q (d .stream) && (ptimeNoneOrInRange c (d .stream .ptime) && unmovedAddress force d))

@@ -1,6 +1,6 @@
 -- Document 01, "Failed attempts": the book, what it holds, how each event moves it, and the reply to the event, for any type of bearer
--- and of Request. The rules of "One endpoint" give each event a verdict, one for each line of "Failed attempts"; the move and the
--- reply follow from book and verdict.
+-- and of Request. The rules of "One endpoint" give each event a verdict. Each line of "Failed attempts" has one, or two: refused and
+-- discarded, a Request judged right or wrong. The move and the reply follow from book and verdict.
 use Prim.Native.Nat.{ℕ}
 use mathlib.Core.Bool.{Bool, true, false}
 use mathlib.Core.List.{List, []}

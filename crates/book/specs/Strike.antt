@@ -111,7 +111,7 @@ module _ {Bearer Request Event : Type 0} where
     abbrev pub logged : Log Bearer Request Event → Event → Log Bearer Request Event
     logged g e = record { book = moved (g .book) (rule (g .book) e); lines = g .lines ++ (logLine (g .book) e ∷ []) }
 
-    -- the log of a list of events, from a fresh endpoint on
+    -- the log of a list of events, from an idle book on
     unfoldable pub logOf : List Event → Log Bearer Request Event
     logOf es = foldl logged (record { book = idle; lines = [] }) es
 
@@ -124,7 +124,7 @@ module _ {Bearer Request Event : Type 0} where
           before = beforeOpen (s .before) (s .kept) (rule (s .book) e);
         }
 
-    -- the sheet of a list of events, from a fresh endpoint on
+    -- the sheet of a list of events, from an idle book on
     unfoldable pub sheetOf : List Event → Sheet Bearer Request Event
     sheetOf es = foldl marked (record { book = idle; kept = []; before = [] }) es
 

@@ -1,3 +1,3 @@
--- The definitions that the contracts of this crate cite. `Private` is used only by private functions.
+-- The definitions that the contracts of this crate use. `Private` is used only by private functions.
 pub mod Again
 pub mod Private

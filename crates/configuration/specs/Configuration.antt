@@ -10,7 +10,7 @@ use Rattle.octets.specs.Words.{same}
 use Rattle.address.specs.declared.Address.{Address}
 use Rattle.address.specs.Kinds.{isUnicast}
 
--- a codec entry: a payload 0 to 95, or an encoding name with clock, which stands for the payloads 96 to 127
+-- a codec entry: one payload of at most 95, or an encoding name such as AMR/8000, which any payload from 96 to 127 can carry
 pub data Codec : Type 0 where
   fixed : ℕ → Codec
   named : List ℕ → Codec
@@ -48,7 +48,7 @@ unfoldable pub allRight : List Codec → Bool
 allRight [] = true
 allRight (k ∷ ks) = rightCodec k && allRight ks
 
--- packet times: least and most are 1 to 255, least not above most
+-- packet times: 1 ≤ least ≤ most ≤ 255
 unfoldable pub rightTimes : ℕ → ℕ → Bool
 rightTimes least most = leb 1 least && (leb least most && leb most 255)
 

@@ -1,4 +1,4 @@
--- Private: what the functions of this crate that are not public promise.
+-- Private: used only by private functions of this crate.
 use Prim.Native.Nat.{ℕ, _≤_}
 use mathlib.Core.Path.{_≡_}
 use lib.ListN.{length}

@@ -32,7 +32,7 @@ pub record Draft : Type 0 where
 unfoldable pub emptyDraft : Draft
 emptyDraft = record { had = 0; address = V4 0; stream = bareStream [] 0 [] 0 }
 
--- ---- the needed lines: once each, and in this order; v is a line's value, after its letter and `=`
+-- ---- the needed lines, each exactly once and in order; v is a line's value, after its letter and `=`
 -- d, after n needed lines
 unfoldable pub reached : ℕ → Draft → Draft
 reached n d = record { had = n; address = d .address; stream = d .stream }

@@ -1,4 +1,4 @@
--- Private: used only by functions of this crate that are not public.
+-- Private: used only by private functions of this crate.
 use Prim.Native.Nat.{ℕ}
 use mathlib.Core.List.{List}
 use mathlib.Core.Bool.{Bool, _&&_, _||_}

@@ -31,7 +31,7 @@ use Rattle.bearer.specs.Bearer.{Bearer}
 use Rattle.bearer.specs.Meaning.{mostOffered, requestBy, bearerBy, requestInside, bearerInside, bearerIf}
 use Rattle.endpoint.specs.declared.Endpoint.{Endpoint}
 use Rattle.endpoint.specs.declared.Reply.the-variants.{Done}
-use Rattle.endpoint.specs.Step.{bookBy, bookOf, Inside, blankStream, freshEndpoint, Creates}
+use Rattle.endpoint.specs.Step.{bookBy, bookOf, Inside, blankStream, newEndpoint, Creates}
 use Rattle.endpoint.specs.Private.{Same, Silent, Says}
 
 -- ---- the book's functions, read on the state and the side
@@ -172,7 +172,7 @@ unfolding spansOf allIn streamInside
 blank-inside m = rw (le-leb 0 (length m) (omega arith))
 
 -- its texts are empty, and lie inside any array
-pub fresh-inside : (c : Config) → Inside (freshEndpoint c)
+pub fresh-inside : (c : Config) → Inside (newEndpoint c)
 fresh-inside c = record { request = blank-inside _; bearer = blank-inside _ }
 
 pub creates : (c : Config) (x : Checked) (s : Places) → x ≡ checked c → s ≡ blankStream

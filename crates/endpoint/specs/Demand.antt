@@ -39,7 +39,7 @@ pub data Runs (e : Endpoint) : List Given → List LogLine → Endpoint → Type
   after : {gs : List Given} {ls : List LogLine} {f : Endpoint} → Runs e gs ls f → (x : Event) (buffer out : List ℕ) (r : Answer) → Did f x buffer out r
       → Runs e (gs ++ (record { event = x; room = length buffer } ∷ [])) (ls ++ (seen x buffer out r ∷ [])) (r .endpoint)
 
--- Such runs exist, so the claim below is not an empty one: for every endpoint, event and buffer some answer meets `Did`
+-- Such runs exist, so the claim below is not vacuous: for every endpoint, event and buffer some answer meets `Did`
 -- (`answer-exists` in `proofs/RunsExist.antt`), and from every endpoint there is a run through every list of events (`run-exists`).
 pub record HasAnswer (e : Endpoint) (x : Event) (buffer : List ℕ) : Type 0 where
   pub out : List ℕ

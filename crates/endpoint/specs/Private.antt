@@ -1,4 +1,4 @@
--- Private: what the functions of this crate that are not public promise and ask of each other.
+-- Private: used only by private functions of this crate: what they promise and ask of each other.
 use Prim.Native.Nat.{ℕ, _≤_}
 use mathlib.Core.Path.{_≡_}
 use mathlib.Core.Bool.{true}

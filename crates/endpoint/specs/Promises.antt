@@ -1,4 +1,4 @@
--- What can be quoted about one event, besides demand 3. `proofs/Promises.antt` proves it from the contract of the event's method.
+-- What is promised about one event, besides demand 3. `proofs/Promises.antt` proves it from the contract of the event's method.
 use Prim.Native.Nat.{ℕ}
 use mathlib.Core.Path.{_≡_}
 use mathlib.Core.Bool.{Bool, true, false}

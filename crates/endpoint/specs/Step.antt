@@ -50,9 +50,9 @@ pub record Inside (e : Endpoint) : Type 0 where
 abbrev pub blankStream : Places
 blankStream = barePlaces (record { at = 0; len = 0 }) 0 (record { at = 0; len = 0 }) 0
 
--- a fresh endpoint, fixed in every field; side, Request and bearer have no meaning while it is idle
-abbrev pub freshEndpoint : Config → Endpoint
-freshEndpoint c = record {
+-- a new endpoint, fixed in every field; side, Request and bearer have no meaning while it is idle
+abbrev pub newEndpoint : Config → Endpoint
+newEndpoint c = record {
   config = c;
   state = Idle;
   side = I;
@@ -60,10 +60,10 @@ freshEndpoint c = record {
   bearer = record { address = V4 0; stream = blankStream; text = replicate mostRead 0 };
 }
 
--- r says whether the configuration c is refused, and has a fresh endpoint in either case
+-- r says whether the configuration c is refused, and has a new endpoint in either case
 pub record Creates (c : Config) (r : Created) : Type 0 where
   pub checked : r .checked ≡ checked c
-  pub endpoint : r .endpoint ≡ freshEndpoint c
+  pub endpoint : r .endpoint ≡ newEndpoint c
 
 -- ---- an event
 -- the event that the code's value stands for; m is the octets of a message, ignored for other events

@@ -62,7 +62,8 @@ pub enum Event {
     Message,
 }
 
-// Whether the configuration is valid, and a fresh endpoint, which is not to be used if it is not.
+// Whether the configuration is valid, and a new endpoint with it. If it is not valid the methods still answer, but theorems that
+// take a valid configuration do not apply.
 pub struct Created {
     pub checked: Checked,
     pub endpoint: Endpoint,
@@ -77,7 +78,7 @@ fn blank_stream() -> Stream
 }
 
 impl Endpoint {
-    // A fresh endpoint, and document 01's number 12 if the configuration is not valid.
+    // A new endpoint, and document 01's number 12 if the configuration is not valid.
     pub fn new(config: Config) -> Created
         ensures { λ r. ⌜ Creates config r ⌝ }
     {

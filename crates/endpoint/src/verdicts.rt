@@ -73,7 +73,7 @@ impl Endpoint {
         }
     }
 
-    // The event is refused with number n.
+    // The event is refused by number n.
     pub(crate) fn refused(self, n: u8) -> Answer
         ensures { λ r. ⌜ Silent self (Verdict.refused n) r ⌝ }
     {

@@ -22,7 +22,7 @@ use Rattle.book.specs.Strike.{eventsOf, keptOf, sheetOf}
 use Rattle.bearer.specs.Bearer.{Bearer}
 use Rattle.bearer.specs.Hearing as hears
 use Rattle.bearer.specs.Hearing.{Heard}
-use Rattle.bearer.specs.Judging.{audio, rtpAvp, sameFamily, sameAddress, offered, commanded, unmoved, rightStream, rightRequest, nearest, restated, granted, acceptedFor, sameOffer, sameHost, rightAccepted}
+use Rattle.bearer.specs.Judging.{audio, rtpAvp, sameFamily, sameAddress, offered, commanded, unmoved, rightStream, rightRequest, nearest, restated, granted, acceptedFor, sameOffer, unmovedAddress, rightAccepted}
 use Rattle.endpoint.specs.Rule.{Book, Verdict, Event, setUp, change, release, t1, t2, messageVerdict, eventVerdict}
 
 -- document 01's configuration, with one more codec, a named one
@@ -129,5 +129,5 @@ cases =
     ∷ []
 
 struck-right : map (λ (p : List Heard-event × List Heard-event). left (p .0)) cases ≡ map (λ (p : List Heard-event × List Heard-event). p .1) cases
-unfolding Option·elim eachAfter joined dottedNumbers cases sheetOf commanded entryIn suits nameOf names namedIn ptimeNoneOrInRange offered sameFamily sameAddress unmoved rightStream rightRequest nearest restated granted acceptedFor sameOffer sameHost rightAccepted same begins has widthFrom numberText lastDigits isPlain allPlain lineText linesText isUnicast addressText ipv4Text mediaText attributeText rtpmapText fmtpText ptimeText rtpmapLines fmtpLines octetsTogether attributesFit typeWord familyWord hostText originText connectionText ipbcpText ptimeLines streamLines contentType mediaLines messageLines messageText isToken allTextsPlain rightMedia rightAttributes rightContent messageOctets
+unfolding Option·elim eachAfter joined dottedNumbers cases sheetOf commanded entryIn suits nameOf names namedIn ptimeNoneOrInRange offered sameFamily sameAddress unmoved rightStream rightRequest nearest restated granted acceptedFor sameOffer unmovedAddress rightAccepted same begins has widthFrom numberText lastDigits isPlain allPlain lineText linesText isUnicast addressText ipv4Text mediaText attributeText rtpmapText fmtpText ptimeText rtpmapLines fmtpLines octetsTogether attributesFit typeWord familyWord hostText originText connectionText ipbcpText ptimeLines streamLines contentType mediaLines messageLines messageText isToken allTextsPlain rightMedia rightAttributes rightContent messageOctets
 struck-right = refl

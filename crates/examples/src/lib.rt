@@ -1,2 +1,3 @@
-// The worked examples of document 01 that are to be proved: proofs/Examples.antt has them as one table, and proofs/Strikes.antt
-// what of short lists of events no failed attempt takes. There is nothing to run here.
+// The worked examples that document 01 marks P: proofs/Examples.antt has them as one table. proofs/Strikes.antt says which events are
+// left when failed attempts are struck, in short lists; proofs/Outside.antt compares that with an outside book. There is nothing to
+// run here.

@@ -22,7 +22,7 @@ use line_output::make_room;
 const LINE_ROOM: usize = 40960;
 
 // What is kept from octet to octet.
-struct State {
+struct InspectState {
     // The line that is being gathered (`line_input::gather`).
     len: usize,
     over: bool,
@@ -31,8 +31,8 @@ struct State {
     going: bool,
 }
 
-fn start() -> State {
-    State {
+fn start() -> InspectState {
+    InspectState {
         len: 0,
         over: false,
         output: Output { at: 0, taken: true },
@@ -41,7 +41,13 @@ fn start() -> State {
 }
 
 // Appends the answer to the line that was gathered.
-fn push_step(line: &[u8], data: &mut [u8], room: &mut [u8], out: &mut [u8], state: State) -> usize {
+fn push_step(
+    line: &[u8],
+    data: &mut [u8],
+    room: &mut [u8],
+    out: &mut [u8],
+    state: InspectState,
+) -> usize {
     let len = state.len;
     let at = state.output.at;
     if state.over {
@@ -54,7 +60,13 @@ fn push_step(line: &[u8], data: &mut [u8], room: &mut [u8], out: &mut [u8], stat
 }
 
 // Answers the line that was gathered, and begins the next.
-fn step(line: &[u8], data: &mut [u8], room: &mut [u8], out: &mut [u8], state: State) -> State {
+fn step(
+    line: &[u8],
+    data: &mut [u8],
+    room: &mut [u8],
+    out: &mut [u8],
+    state: InspectState,
+) -> InspectState {
     let mut st = state;
     let k = push_step(line, data, room, out, st);
     let at = octets::append::push_octet(b'\n', out, k);
@@ -72,8 +84,8 @@ fn feed(
     data: &mut [u8],
     room: &mut [u8],
     out: &mut [u8],
-    state: State,
-) -> State {
+    state: InspectState,
+) -> InspectState {
     let mut st = state;
     let mut i = 0;
     while i < part.len() && st.output.taken {
@@ -107,8 +119,8 @@ fn turn(
     data: &mut [u8],
     room: &mut [u8],
     out: &mut [u8],
-    state: State,
-) -> State {
+    state: InspectState,
+) -> InspectState {
     let mut st = state;
     let got = libc::read(STDIN_FILENO, part);
     if got <= 0 {

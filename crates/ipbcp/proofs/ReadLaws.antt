@@ -34,16 +34,16 @@ described-of k j b e p = rw e p
 
 -- ---- the answer by version and type
 -- what all lines say, by the lines that are right
-finish-ended : (k : MessageType) (o : Option Draft) → concluded k (complete o) ≡ concluded k o
+concluded-ended : (k : MessageType) (o : Option Draft) → concluded k (complete o) ≡ concluded k o
 unfolding concluded complete
-finish-ended k none = refl
-finish-ended k (some d) = by-bool (eqb (d .had) 7) _ (λ e. rw (e, e)) (λ e. rw e)
+concluded-ended k none = refl
+concluded-ended k (some d) = by-bool (eqb (d .had) 7) _ (λ e. rw (e, e)) (λ e. rw e)
 
-finish-by : (m : List ℕ) (k : MessageType) (o : Option Draft) → inLines m ≡ true → complete (afterText emptyDraft m) ≡ o → concluded k o ≡ concluded k (afterLines emptyDraft (lines m))
+concluded-by : (m : List ℕ) (k : MessageType) (o : Option Draft) → inLines m ≡ true → complete (afterText emptyDraft m) ≡ o → concluded k o ≡ concluded k (afterLines emptyDraft (lines m))
 unfolding afterText
-finish-by m k o l e =
+concluded-by m k o l e =
     let z : afterText emptyDraft m ≡ afterLines emptyDraft (lines m) = rw l in
-    rw (← e, z) (finish-ended k (afterLines emptyDraft (lines m)))
+    rw (← e, z) (concluded-ended k (afterLines emptyDraft (lines m)))
 
 -- y is the version and the type of m
 module _ (m : List ℕ) (y : Head) (is : y ≡ headIn m) where
@@ -77,7 +77,7 @@ module _ (m : List ℕ) (y : Head) (is : y ≡ headIn m) where
       unfolding byHead
       by-lines f o q r p =
           let g : isDescribed kind ≡ true = sym says ∙ f in
-          by-head r (Typed version kind) e (rw (eq-eqb version 1 one, g) (p ∙ ap some (finish-by m kind o read-lined q)))
+          by-head r (Typed version kind) e (rw (eq-eqb version 1 one, g) (p ∙ ap some (concluded-by m kind o read-lined q)))
 
       pub by-wrong : t ≡ true → complete (afterText emptyDraft m) ≡ none → readingIn m (answer.Refused 10) ≡ some (byHead m (headIn m))
       unfolding readingIn concluded

@@ -332,10 +332,10 @@ lines-kept d k (t ∷ ts) h =
 
 -- ---- the whole message
 module _ (k : MessageType) (a : Address) (s : Stream) where
-  finish-right : (j : MessageType) (o : Option Draft) → every Kept o → concluded j o ≡ described k a s → Right s
+  concluded-right : (j : MessageType) (o : Option Draft) → every Kept o → concluded j o ≡ described k a s → Right s
   unfolding concluded every
-  finish-right j none p e = let z : _≡_ {A = ℕ} 0 1 = cc in absurd (omega arith)
-  finish-right j (some d) p e =
+  concluded-right j none p e = let z : _≡_ {A = ℕ} 0 1 = cc in absurd (omega arith)
+  concluded-right j (some d) p e =
       by-bool (eqb (d .had) 7) _
       (λ h. let q : described j (d .address) (d .stream) ≡ described k a s = rw h at e in
       let z : d .stream ≡ s = cc in
@@ -346,7 +346,7 @@ module _ (k : MessageType) (a : Address) (s : Stream) where
   unfolding inLines
   lined-right m j h e =
       let all = and-eq-true-iff (allEnded m) (allLines (lines m)) .0 h .1 in
-      finish-right j (afterLines emptyDraft (lines m)) (lines-kept emptyDraft start-kept (lines m) all) e
+      concluded-right j (afterLines emptyDraft (lines m)) (lines-kept emptyDraft start-kept (lines m) all) e
 
   head-right : (m : List ℕ) → length m ≤ mostRead → (x : Head) → x ≡ headIn m → byHead m x ≡ described k a s → Right s
   unfolding byHead

@@ -1,4 +1,4 @@
--- Private: used only by functions of this crate that are not public. They read a message once, from its first line to its last:
+-- Private: used only by private functions of this crate. They read a message once, from its first line to its last:
 -- the lines before the ipbcp line, those up to the media line, and those after it.
 use Prim.Native.Nat.{ℕ}
 use mathlib.Core.Path.{_≡_}

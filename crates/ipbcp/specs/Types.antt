@@ -35,7 +35,7 @@ typeNamed w =
     (cond (same (typeWord Confused) w) (some Confused)
     (when (same (typeWord Rejected) w) (some Rejected))))
 
--- a version 0 to 255, one blank, and a type
+-- a version of at most 255, a blank, and the word of a type
 unfoldable pub typedFrom : List ℕ → Option Head
 typedFrom s =
     when (eqb (tokenCount s) 2)

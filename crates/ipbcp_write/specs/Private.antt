@@ -1,4 +1,4 @@
--- Private: used only by functions of this crate that are not public, on the way from a body, whose texts are places in a source,
+-- Private: used only by private functions of this crate, on the way from a body, whose texts are places in a source,
 -- to the octets of its message.
 use Prim.Native.Nat.{ℕ}
 use mathlib.Core.List.{List, [], _∷_, _++_}

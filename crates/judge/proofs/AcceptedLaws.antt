@@ -17,7 +17,7 @@ use Rattle.configuration.specs.Configuration.{ptimeNoneOrInRange}
 use Rattle.configuration.specs.Meaning.{configurationBy}
 use Rattle.bearer.specs.declared.Bearer.{Bearer as Held}
 use Rattle.bearer.specs.Bearer.{Bearer}
-use Rattle.bearer.specs.Judging.{sameFamily, sameAddress, sameOffer, sameHost, rightAccepted}
+use Rattle.bearer.specs.Judging.{sameFamily, sameAddress, sameOffer, unmovedAddress, rightAccepted}
 use Rattle.bearer.specs.Meaning.{bearerBy, namedBy, bearerIf}
 
 -- ---- the streams o, whose texts are in l, and s, whose texts are in m; the code has the media as a and b, the transports as
@@ -55,12 +55,12 @@ pub ruleset offers = (offer-media, offer-transport, offer-payload, offer-rtpmap)
 
 -- ---- what is in force, if t says that a bearer is; u says whether its address is a
 module _ (t : Bool) (b : Held) (m : List ℕ) (a : Address) (s : Places) where
-  pub host-none : t ≡ false → true ≡ sameHost (bearerIf t (bearerBy b)) (namedBy m a s)
-  unfolding sameHost
+  pub host-none : t ≡ false → true ≡ unmovedAddress (bearerIf t (bearerBy b)) (namedBy m a s)
+  unfolding unmovedAddress
   host-none h = rw h
 
-  pub host-address : t ≡ true → (u : Bool) → u ≡ sameAddress (b .address) a → u ≡ sameHost (bearerIf t (bearerBy b)) (namedBy m a s)
-  unfolding sameHost bearerBy namedBy
+  pub host-address : t ≡ true → (u : Bool) → u ≡ sameAddress (b .address) a → u ≡ unmovedAddress (bearerIf t (bearerBy b)) (namedBy m a s)
+  unfolding unmovedAddress bearerBy namedBy
   host-address h u p = rw h p
 
 pub ruleset hosts = (host-none, host-address)
@@ -87,7 +87,7 @@ module _ (c : Config) (f : Option Bearer) (q : Stream) (m : List ℕ) (a : Addre
       unfolding rightAccepted configurationBy namedBy streamBy
       accepted-time e = let x : ptimeNoneOrInRange (configurationBy c) (s .ptime) ≡ false = sym range ∙ e in rw (family-is, offer-is, x)
 
-      pub accepted-host : v ≡ true → (w : Bool) → w ≡ sameHost f (namedBy m a s) → w ≡ rightAccepted (configurationBy c) f q (namedBy m a s)
+      pub accepted-host : v ≡ true → (w : Bool) → w ≡ unmovedAddress f (namedBy m a s) → w ≡ rightAccepted (configurationBy c) f q (namedBy m a s)
       unfolding rightAccepted configurationBy namedBy streamBy
       accepted-host e w p = let x : ptimeNoneOrInRange (configurationBy c) (s .ptime) ≡ true = sym range ∙ e in rw (family-is, offer-is, x) p
 

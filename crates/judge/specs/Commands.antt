@@ -1,4 +1,4 @@
--- What a command comes to: its Request, if its fields suit the configuration.
+-- The Request of a command, if its fields suit the configuration.
 use Prim.Native.Nat.{ℕ}
 use mathlib.Core.Path.{_≡_}
 use mathlib.Core.Bool.{true, false, cond}

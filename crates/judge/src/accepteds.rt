@@ -2,7 +2,7 @@
 ghost use mathlib.Core.Path.{_≡_};
 ghost use Rattle.media.specs.Meaning.{streamBy};
 ghost use Rattle.configuration.specs.Meaning.{configurationBy};
-ghost use Rattle.bearer.specs.Judging.{sameOffer, sameHost, rightAccepted};
+ghost use Rattle.bearer.specs.Judging.{sameOffer, unmovedAddress, rightAccepted};
 ghost use Rattle.bearer.specs.Meaning.{requestBy, bearerBy, namedBy, bearerIf};
 use crate::addresses::same_address;
 use crate::addresses::same_family;
@@ -45,7 +45,7 @@ fn same_offer(q: Request, s: Stream, m: &[u8]) -> bool
 
 // The address is that of the bearer b, if one is held.
 fn same_host(held: bool, b: Bearer, address: Address, s: Stream, m: &[u8]) -> bool
-    ensures { λ r. ⌜ r ≡ sameHost (bearerIf held (bearerBy b)) (namedBy (now (m .entry)) address s) ⌝ }
+    ensures { λ r. ⌜ r ≡ unmovedAddress (bearerIf held (bearerBy b)) (namedBy (now (m .entry)) address s) ⌝ }
 {
     let at = b.address;
     if held {

@@ -16,7 +16,7 @@ use Rattle.octets.proofs.CaseLaws.{by-eq, by-lt}
 use Rattle.octets.proofs.SplitLaws.{split-some, has-not}
 use Rattle.line_input.specs.declared.Gathered.{Gathered}
 use Rattle.line_input.specs.Gather.{gathered, Gathers}
-use Rattle.line_input.specs.Whole.{Text, Held, Over, fit, fitAll, heldText, Fed}
+use Rattle.line_input.specs.Fed.{LineText, Held, Over, fit, fitAll, heldText, Fed}
 
 -- b put after the last part
 unfoldable addLast : ℕ → List (List ℕ) → List (List ℕ)
@@ -145,7 +145,7 @@ module _ (part l f : List ℕ) (from n : ℕ) (over : Bool) (r : Gathered) (g : 
 fit-snoc : (cap : ℕ) (ts : List (List ℕ)) (t : List ℕ) → fitAll cap (ts ++ (t ∷ [])) ≡ fitAll cap ts ++ (fit cap t ∷ [])
 unfolding fitAll
 fit-snoc cap [] t = refl
-fit-snoc cap (u ∷ ts) t = ap (λ (z : List Text). fit cap u ∷ z) (fit-snoc cap ts t)
+fit-snoc cap (u ∷ ts) t = ap (λ (z : List LineText). fit cap u ∷ z) (fit-snoc cap ts t)
 
 -- The theorem, as three laws: they hold of every chain of calls of `gather`, however the octets are parted.
 -- Before the first call nothing is fed, and nothing is held.
@@ -153,7 +153,7 @@ pub fed-start : (l : List ℕ) → Fed (length l) [] [] (heldText l 0 false)
 unfolding splitOn fitAll heldText
 fed-start l = record { ended = []; open-line = []; cut = refl; handed = refl; holds = sym (fit-yes (length l) [] (omega arith)) }
 
-module _ (part l f s : List ℕ) (ts : List Text) (from n : ℕ) (over : Bool) (r : Gathered) (g : Gathers part from l n over r f) (h : n ≤ length l)
+module _ (part l f s : List ℕ) (ts : List LineText) (from n : ℕ) (over : Bool) (r : Gathered) (g : Gathers part from l n over r f) (h : n ≤ length l)
     (fed : Fed (length l) s ts (heldText l n over)) where
   -- a call that met no LF: all of the part is fed, and no line is handed out
   pub fed-more : r .ended ≡ false → Fed (length f) (s ++ drop from part) ts (heldText f (r .len) (r .over))

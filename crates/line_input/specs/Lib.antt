@@ -1,3 +1,3 @@
 -- What `gather` does in one call, and what a chain of its calls does.
 pub mod Gather
-pub mod Whole
+pub mod Fed

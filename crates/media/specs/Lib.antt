@@ -1,5 +1,5 @@
--- What the contracts of this crate speak of: `Stream` and `Attributes`, by document 01; `Meaning` for the code's types; `Private`
--- is used only by functions that are not public.
+-- The definitions that the contracts of this crate use: `Stream` and `Attributes`, by document 01; `Meaning` for the code's types; `Private`
+-- is used only by private functions.
 pub mod Stream
 pub mod Attributes
 pub mod Meaning

@@ -1,4 +1,4 @@
--- Private: used only by functions of this crate that are not public.
+-- Private: used only by private functions of this crate.
 use Prim.Native.Nat.{ℕ, _+_, _≤_, min}
 use mathlib.Core.Path.{_≡_}
 use mathlib.Core.List.{List}

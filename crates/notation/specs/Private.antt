@@ -1,4 +1,4 @@
--- Private: what the functions promise that are not public.
+-- Private: used only by private functions of this crate.
 use Prim.Native.Nat.{ℕ}
 use mathlib.Core.List.{List}
 use mathlib.Core.Bool.{_&&_, cond}

@@ -1,4 +1,4 @@
--- The definitions that the contracts of this crate cite, a file for each subject. `Private` is used only by private functions.
+-- The definitions that the contracts of this crate use, a file for each subject. `Private` is used only by private functions.
 pub mod Text
 pub mod Split
 pub mod Puts

@@ -29,7 +29,7 @@ pub record Puts (t : Option (List ℕ)) (l : List ℕ) (r : Put) (f : List ℕ) 
   pub answers : r ≡ putAnswer (length l) t
   pub leaves : f ≡ putLeaves l t
 
--- For C an answer is one number: a count, or this number plus document 01's. No count of elements or of octets written
+-- For C, `bat_table` and `card_packet` answer one number: a count, or this number plus document 01's. No count of elements or of octets written
 -- reaches it.
 abbrev pub refusedFrom : ℕ
 refusedFrom = 65536

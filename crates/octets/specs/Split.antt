@@ -6,7 +6,7 @@ use mathlib.Core.Bool.{Bool, false, _||_, cond}
 use lib.ListN.{length, drop}
 use lib.Dec.{eqb}
 
--- c is among s
+-- s has a c
 unfoldable pub has : ℕ → List ℕ → Bool
 has c [] = false
 has c (b ∷ bs) = eqb b c || has c bs

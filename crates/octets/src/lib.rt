@@ -7,7 +7,7 @@ pub mod parts;
 pub mod spans;
 pub mod words;
 
-// For C an answer is one number: a count, or this number plus document 01's. No count reaches it.
+// For C, `bat_table` and `card_packet` answer one number: a count, or this number plus document 01's. No count reaches it.
 pub const REFUSED: usize = 65536;
 
 // A writer's answer: how many octets it put at the front of a buffer, or document 01's number.

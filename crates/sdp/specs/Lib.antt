@@ -1,5 +1,5 @@
--- What the contracts of this crate speak of: `Lines` for reading and `Written` for writing, by document 01; `Meaning` for the
--- code's `Line`; `Private` is used only by functions that are not public.
+-- The definitions that the contracts of this crate use: `Lines` for reading and `Written` for writing, by document 01; `Meaning` for the
+-- code's `Line`; `Private` is used only by private functions.
 pub mod Lines
 pub mod Written
 pub mod Meaning

@@ -1,4 +1,4 @@
--- Private: used only by functions of this crate that are not public. They find the end of a line by the first octet that
+-- Private: used only by private functions of this crate. They find the end of a line by the first octet that
 -- can't be part of one.
 use Prim.Native.Nat.{ℕ, _+_, _≤_}
 use mathlib.Core.Path.{_≡_}

@@ -1,4 +1,4 @@
--- What the contracts of this crate speak of: `Tokens` and `Lengths`; `Private` is used only by functions that are not public.
+-- The definitions that the contracts of this crate use: `Tokens` and `Lengths`; `Private` is used only by private functions.
 pub mod Tokens
 pub mod Lengths
 pub mod Private

@@ -21,7 +21,7 @@ use Rattle.configuration.specs.Configuration.{Codec, Configuration, entryIn}
 use Rattle.configuration.specs.Meaning.{codecBy, codecsBy, configurationBy, foundBy, configInside}
 use Rattle.endpoint.specs.declared.Endpoint.{Endpoint}
 use Rattle.endpoint.specs.declared.Created.{Created}
-use Rattle.endpoint.specs.Step.{freshEndpoint, Creates}
+use Rattle.endpoint.specs.Step.{newEndpoint, Creates}
 use Rattle.trace_read.specs.declared.Configured.{Configured}
 use Rattle.trace_read.specs.Configuring.{isCodecLine, codecIn, generalIn}
 use Rattle.trace_read.specs.Meaning.{configuredBy, Configures}
@@ -32,14 +32,14 @@ use Rattle.trace.specs.declared.Session.{Session}
 use Rattle.trace.specs.declared.Stepped.{Stepped}
 use Rattle.trace.specs.Trace.{TraceLine, eventEffect, configuringEffect, noCodec, firstEffect, lineEffect, ending}
 use Rattle.trace.specs.Meaning.{configurationOf, traceIn, traceBy, Begins, Does}
-use Rattle.trace.specs.Private.{Goes, kept}
+use Rattle.trace.specs.Private.{Goes, configuringWith}
 
 pub begins-is : (g : Configured) (z : Option Configuration) (o : Created) → Configures true z g → Creates (g .config) o
     → Begins (record { phase = phase.Start; number = 0; endpoint = o .endpoint })
 unfolding traceIn
 begins-is g z o c h = record { is = refl; inside = rw (h .endpoint) (c .inside refl) }
 
-pub kept-is : (c : Config) (e : Endpoint) (at : ℕ) → e ≡ freshEndpoint c → record { session = record { phase = phase.Configuring; number = 0; endpoint = e }; at = at } ≡ kept c at
+pub kept-is : (c : Config) (e : Endpoint) (at : ℕ) → e ≡ newEndpoint c → record { session = record { phase = phase.Configuring; number = 0; endpoint = e }; at = at } ≡ configuringWith c at
 kept-is c e at h = rw h
 
 pub refused-is : (e : Endpoint) (out out′ : List ℕ) (at k : ℕ) → Appends out at refusedLine k out′
@@ -50,7 +50,7 @@ refused-is e out out′ at k a room = record { session = refl; printed = a; lent
 -- ---- a line of the configuration, which gives z
 module _ (self : Endpoint) (out : List ℕ) (at : ℕ) (r : Stepped) (whole : Bool) (z : Option Configuration) where
   kept-whole : (before : Bool) → (configInside (self .config) ≡ true → before ≡ true) → (g : Configured) → Configures before z g → whole ≡ true
-      → g .right ≡ true → r ≡ kept (g .config) at → Goes self (when whole z) out out at r
+      → g .right ≡ true → r ≡ configuringWith (g .config) at → Goes self (when whole z) out out at r
   unfolding configuredBy configuringEffect traceIn
   kept-whole before j g e h p x room =
       let i = e .is in
@@ -58,11 +58,11 @@ module _ (self : Endpoint) (out : List ℕ) (at : ℕ) (r : Stepped) (whole : Bo
       rw (x, h, ← y) (record { session = refl; printed = appending.append-nil out at; lent = refl; inside = λ k. e .inside (j k) })
 
   -- a `G` line, whatever was before
-  pub whole-kept : (g : Configured) → Configures true z g → whole ≡ true → g .right ≡ true → r ≡ kept (g .config) at → Goes self (when whole z) out out at r
+  pub whole-kept : (g : Configured) → Configures true z g → whole ≡ true → g .right ≡ true → r ≡ configuringWith (g .config) at → Goes self (when whole z) out out at r
   whole-kept g e h p x = kept-whole true (λ k. refl) g e h p x
 
   -- a `K` line
-  pub whole-added : (g : Configured) → Configures (configInside (self .config)) z g → whole ≡ true → g .right ≡ true → r ≡ kept (g .config) at
+  pub whole-added : (g : Configured) → Configures (configInside (self .config)) z g → whole ≡ true → g .right ≡ true → r ≡ configuringWith (g .config) at
       → Goes self (when whole z) out out at r
   whole-added g e h p x = kept-whole (configInside (self .config)) (λ k. k) g e h p x
 
@@ -80,12 +80,12 @@ module _ (self : Endpoint) (out : List ℕ) (at : ℕ) (r : Stepped) (whole : Bo
 pub ruleset configures = (whole-kept, whole-added, whole-refused, part-refused)
 
 -- ---- the first event
-pub first-is : (self e : Endpoint) (l : TraceLine) (room room′ out g out′ : List ℕ) (at k : ℕ) (d : Bool) (r : Stepped) → e ≡ freshEndpoint (self .config)
+pub first-is : (self e : Endpoint) (l : TraceLine) (room room′ out g out′ : List ℕ) (at k : ℕ) (d : Bool) (r : Stepped) → e ≡ newEndpoint (self .config)
     → Does e (lineEffect d (traceIn phase.Running (record { phase = phase.Running; number = 0; endpoint = e })) l room) room′ g out′ k r
     → Appends out at headerLine k g → Does self (firstEffect d (configurationBy (self .config)) l room) room′ out out′ at r
 unfolding firstEffect lineEffect traceIn
 first-is self e l room room′ out g out′ at k d r f x a =
-    let y : Does (freshEndpoint (self .config)) (eventEffect d (configurationBy (self .config)) idle 0 l room) room′ g out′ k r = rw f at x in
+    let y : Does (newEndpoint (self .config)) (eventEffect d (configurationBy (self .config)) idle 0 l room) room′ g out′ k r = rw f at x in
     record { session = y .session; printed = append-then out g out′ headerLine _ at k (r .at) (y .printed) a; lent = y .lent; inside = y .inside }
 
 -- ---- whether there is a codec

@@ -21,7 +21,7 @@ use Rattle.address.specs.declared.Parsed.{Parsed}
 use Rattle.address.specs.declared.Parsed.the-variants.{Unicast, Unreadable}
 use Rattle.address.specs.Kinds.{onParsed}
 use Rattle.configuration.specs.Configuration.{Codec, fixed, named, Configuration, mostCodecs, rightCodec, allRight, rightCodecs, rightGeneral, rightConfiguration}
-use Rattle.trace_read.specs.Configuring.{hostIn, general, usable, generalFields, generalOf, generalIn, rightly, payloadOf, codecOf, withCodec, addedTo, codecFor, codecIn, isCodecLine}
+use Rattle.trace_read.specs.Configuring.{eitherFamily, general, usable, generalFields, generalOf, generalIn, rightly, payloadOf, codecOf, withCodec, addedTo, codecFor, codecIn, isCodecLine}
 use Rattle.trace_read.specs.Words.{fieldsOf, firstIs, generalWord}
 use Rattle.trace.specs.Trace.{Trace, start, configuring, running, stopped, TraceLine, verdictEffect, eventEffect, configuringEffect, noCodec, firstEffect, lineEffect}
 use Rattle.trace.specs.declared.Phase.the-variants.{Running}
@@ -78,7 +78,7 @@ general-begun : (s : List ℕ) → Each Begun (generalIn s)
 unfolding generalOf generalFields
 general-begun s =
     each-cond Begun (eqb (length (fieldsOf s)) 7 && firstIs generalWord (fieldsOf s)) _
-    (each-parsed Begun (hostIn (partAt 1 (fieldsOf s))) _
+    (each-parsed Begun (eitherFamily (partAt 1 (fieldsOf s))) _
     (λ own. each-number Begun (readNumber (partAt 2 (fieldsOf s))) _
     (λ port. each-number Begun (readNumber (partAt 3 (fieldsOf s))) _
     (λ least. each-number Begun (readNumber (partAt 4 (fieldsOf s))) _

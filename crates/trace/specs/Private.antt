@@ -1,4 +1,4 @@
--- Private: what the functions promise that are not public.
+-- Private: used only by private functions of this crate.
 use Prim.Native.Nat.{ℕ, min}
 use mathlib.Core.Path.{_≡_}
 use mathlib.Core.List.{List, [], _++_}
@@ -18,7 +18,7 @@ use Rattle.endpoint.specs.declared.Answer.{Answer}
 use Rattle.endpoint.specs.declared.Reply.{Reply}
 use Rattle.endpoint.specs.declared.Reply.the-variants.{Refused, Done}
 use Rattle.endpoint.specs.Rule.{Event}
-use Rattle.endpoint.specs.Step.{bookOf, freshEndpoint, Did, eventBy}
+use Rattle.endpoint.specs.Step.{bookOf, newEndpoint, Did, eventBy}
 use Rattle.trace.specs.declared.Phase.the-variants.{Configuring}
 use Rattle.trace.specs.declared.events.Ready.{Ready}
 use Rattle.trace.specs.declared.events.Ready.the-variants as ready
@@ -32,8 +32,8 @@ abbrev pub Goes : Endpoint → Option Configuration → List ℕ → List ℕ �
 Goes self c out out′ at r = (room : List ℕ) → Does self (configuringEffect room c) room out out′ at r
 
 -- a session with the configuration c so far
-abbrev pub kept : Config → ℕ → Stepped
-kept c at = record { session = record { phase = Configuring; number = 0; endpoint = freshEndpoint c }; at = at }
+abbrev pub configuringWith : Config → ℕ → Stepped
+configuringWith c at = record { session = record { phase = Configuring; number = 0; endpoint = newEndpoint c }; at = at }
 
 -- ---- lines of events
 -- what line n does to an endpoint: e is its event, if it has one, and it asks for `wanted` octets of room

@@ -11,7 +11,7 @@ use Rattle.octets.specs.Chain.{when}
 use Rattle.octets.specs.Text.{lf}
 use Rattle.book.specs.declared.State.{State}
 use Rattle.book.specs.Book.{idle, refusal, done, stateOf, settled, refused, moved, replied}
-use Rattle.book.specs.Book as told
+use Rattle.book.specs.Book as book
 use Rattle.configuration.specs.Configuration.{Configuration}
 use Rattle.bearer.specs.Bearer.{Bearer}
 use Rattle.endpoint.specs.declared.Reply.{Reply}
@@ -49,13 +49,13 @@ pub record Effect : Type 0 where
   pub lent : List ℕ
 
 -- ---- an event, and the verdict on it
--- a line that is no event is refused with 13; w is the length of the event's output buffer
+-- a line that is no event is refused by 13; w is the length of the event's output buffer
 unfoldable pub verdictOn : Configuration → Book → Option Event → ℕ → Verdict
 verdictOn c k none w = refused 13
 verdictOn c k (some e) w = rule c k (record { event = e; room = w })
 
 -- the octets that a reply writes
-unfoldable pub replyOctets : told.Reply → List ℕ
+unfoldable pub replyOctets : book.Reply → List ℕ
 replyOctets (refusal n) = []
 replyOctets (done s n o d) = o
 
@@ -92,7 +92,7 @@ eventEffect detailed c k n l room =
     verdictEffect detailed c k (nextNumber n) e room w (verdictOn c k e w)
 
 -- ---- a line before the first event
--- the configuration that a line gives: one that can't be used is refused with 12, and the trace stops
+-- the configuration that a line gives: one that can't be used is refused by 12, and the trace stops
 unfoldable pub configuringEffect : List ℕ → Option Configuration → Effect
 configuringEffect room none = record { printed = refusedLine; next = stopped; lent = room }
 configuringEffect room (some c) = record { printed = []; next = configuring c; lent = room }

@@ -5,11 +5,11 @@ ghost use mathlib.Core.Option.{none};
 ghost use Rattle.octets.specs.Chain.{when};
 ghost use Rattle.octets.specs.Append.{Appends};
 ghost use Rattle.configuration.specs.Meaning.{configurationBy};
-ghost use Rattle.endpoint.specs.Step.{freshEndpoint};
+ghost use Rattle.endpoint.specs.Step.{newEndpoint};
 ghost use Rattle.trace_read.specs.Configuring.{generalIn, codecIn};
 ghost use Rattle.trace.specs.Trace.{lineOf, noCodec, firstEffect, lineEffect, ending};
 ghost use Rattle.trace.specs.Meaning.{configurationOf, traceIn, Does};
-ghost use Rattle.trace.specs.Private.{Goes, kept};
+ghost use Rattle.trace.specs.Private.{Goes, configuringWith};
 use crate::Phase;
 use crate::Session;
 use crate::Stepped;
@@ -25,7 +25,7 @@ use trace_write::lines::push_refused_line;
 // An endpoint with this configuration, to which nothing has happened. The check of `Endpoint::new` is not used: each line has been
 // checked when it came.
 fn fresh(config: Config) -> Endpoint
-    ensures { λ r. ⌜ r ≡ freshEndpoint config ⌝ }
+    ensures { λ r. ⌜ r ≡ newEndpoint config ⌝ }
 {
     let opening = Endpoint::new(config);
     opening.endpoint
@@ -41,7 +41,7 @@ fn has_codec(config: Config) -> bool
 
 // A session with this configuration so far.
 fn keep(config: Config, at: usize) -> Stepped
-    ensures { λ r. ⌜ r ≡ kept config at ⌝ }
+    ensures { λ r. ⌜ r ≡ configuringWith config at ⌝ }
 {
     Stepped {
         session: Session {

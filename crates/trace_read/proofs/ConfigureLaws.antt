@@ -32,7 +32,7 @@ use Rattle.trace_read.specs.declared.configure.Small.{Small}
 use Rattle.trace_read.specs.declared.configure.Small.the-variants as small
 use Rattle.trace_read.specs.declared.configure.FourNumbers.{FourNumbers}
 use Rattle.trace_read.specs.declared.configure.FourNumbers.the-variants as four
-use Rattle.trace_read.specs.Configuring.{hostIn, general, usable, generalFields, generalOf}
+use Rattle.trace_read.specs.Configuring.{eitherFamily, general, usable, generalFields, generalOf}
 use Rattle.trace_read.specs.Meaning.{configuredBy, Configures}
 use Rattle.trace_read.specs.Private.{Fails, smallOf, onSmall, fourNumbers, timesOf}
 use Rattle.trace_read.proofs.FieldLaws.{fields-are}
@@ -84,12 +84,12 @@ pub ruleset onSmalls = (on-small, on-large)
 
 -- ---- an address
 module _ (s : List ℕ) (x : Parsed) (e : x ≡ readV4 s) where
-  pub host-first : (a : Address) → x ≡ Unicast a → x ≡ hostIn s
-  unfolding hostIn onParsed
+  pub host-first : (a : Address) → x ≡ Unicast a → x ≡ eitherFamily s
+  unfolding eitherFamily onParsed
   host-first a q = rw (← e, q)
 
-  pub host-second : (y : Parsed) → x ≡ Unreadable → y ≡ readV6 s → y ≡ hostIn s
-  unfolding hostIn onParsed
+  pub host-second : (y : Parsed) → x ≡ Unreadable → y ≡ readV6 s → y ≡ eitherFamily s
+  unfolding eitherFamily onParsed
   host-second y q r = rw (← e, q) r
 
 pub ruleset hosts = (host-first, host-second)
@@ -188,7 +188,7 @@ module _ (own : Address) (port : ℕ) (ps : List (List ℕ)) where
 pub ruleset times = (times-are, times-none)
 
 -- ---- the fields
-module _ (ps : List (List ℕ)) (r : Configured) (a : Parsed) (e : a ≡ hostIn (partAt 1 ps)) where
+module _ (ps : List (List ℕ)) (r : Configured) (a : Parsed) (e : a ≡ eitherFamily (partAt 1 ps)) where
   pub fields-host : a ≡ Unreadable → Fails r → Configures true (generalFields ps) r
   unfolding generalFields onParsed
   fields-host q f = failed true _ r f (λ h. rw (← e, q) h)

@@ -15,15 +15,15 @@ use Rattle.octets.specs.Words.{same}
 use Rattle.octets.proofs.SplitLaws.{split-some}
 use Rattle.address.specs.declared.Parsed.{Parsed}
 use Rattle.configuration.specs.Configuration.{Codec}
-use Rattle.trace_read.specs.Configuring.{hostIn, codecOf}
+use Rattle.trace_read.specs.Configuring.{eitherFamily, codecOf}
 
 -- ---- reading a field, which is p
 module _ (p q : List ℕ) (e : p ≡ q) where
   pub number-of : (r : Number) → r ≡ readNumber p → r ≡ readNumber q
   number-of r k = k ∙ ap readNumber e
 
-  pub host-of : (r : Parsed) → r ≡ hostIn p → r ≡ hostIn q
-  host-of r k = k ∙ ap hostIn e
+  pub host-of : (r : Parsed) → r ≡ eitherFamily p → r ≡ eitherFamily q
+  host-of r k = k ∙ ap eitherFamily e
 
   pub codec-of : (r : Option Codec) → r ≡ codecOf p → r ≡ codecOf q
   codec-of r k = k ∙ ap codecOf e

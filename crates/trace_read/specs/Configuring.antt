@@ -1,4 +1,4 @@
--- Document 01, "Trace program": the lines that configure the endpoint. `none` is refused with 12.
+-- Document 01, "Trace program": the lines that configure the endpoint. `none` is refused by 12.
 use Prim.Native.Nat.{ℕ}
 use mathlib.Core.List.{List, [], _∷_, _++_}
 use mathlib.Core.Bool.{Bool, _&&_, cond}
@@ -11,7 +11,7 @@ use Rattle.octets.specs.Split.{partAt}
 use Rattle.address.specs.declared.Address.{Address}
 use Rattle.address.specs.declared.Parsed.{Parsed}
 use Rattle.address.specs.declared.Parsed.the-variants.{Unicast}
-use Rattle.address.specs.Kinds.{onParsed}
+use Rattle.address.specs.Kinds.{onParsed, unicast}
 use Rattle.address.specs.Ipv4.{readV4}
 use Rattle.address.specs.Ipv6.{readV6}
 use Rattle.configuration.specs.Configuration.{Codec, fixed, named, Configuration, mostCodecs, rightCodec, rightGeneral}
@@ -19,12 +19,8 @@ use Rattle.trace_read.specs.Words.{fieldsOf, firstIs, generalWord, codec
 
 -- ---- `G`: own address, port, least and greatest packet time, T1 and T2
 -- an address of either family
-unfoldable pub hostIn : List ℕ → Parsed
-hostIn s = onParsed (readV4 s) Unicast (readV6 s)
-
--- go on with the address that t is
-abbrev pub host : {X : Type 0} → List ℕ → (Address → Option X) → Option X
-host t go = onParsed (hostIn t) go none
+unfoldable pub eitherFamily : List ℕ → Parsed
+eitherFamily s = onParsed (readV4 s) Unicast (readV6 s)
 
 -- a configuration with no codec yet
 unfoldable pub general : Address → ℕ → ℕ → ℕ → ℕ → ℕ → Configuration
@@ -44,7 +40,7 @@ usable c = when (rightGeneral c) (some c)
 
 unfoldable pub generalFields : List (List ℕ) → Option Configuration
 generalFields ps =
-    host (partAt 1 ps)
+    unicast (eitherFamily (partAt 1 ps))
     (λ own. number (partAt 2 ps)
     (λ port. number (partAt 3 ps)
     (λ least. number (partAt 4 ps)

@@ -1,5 +1,5 @@
 -- The output buffer that is lent to an event: 2,048 octets. In a detailed trace a line may begin with `B`, a tab, a length and a tab,
--- which are not part of the line's 1,200 octets; then the buffer has that length.
+-- which are not part of the line's 1,200 octets; then the buffer has that length, if it is less.
 use Prim.Native.Nat.{ℕ, _+_}
 use mathlib.Core.List.{List, [], _∷_}
 use mathlib.Core.Bool.{Bool, _&&_}
@@ -41,4 +41,4 @@ orUsual s x = Option·elim x (usual s) (λ (l : Lent). l)
 
 -- A line whose prefix is wrong is no event, since no event begins with `B`.
 unfoldable pub lentIn : Bool → List ℕ → Lent
-lentIn detailed s = orUsual s (when (detailed && begins lendWord s) (lentAfter (drop 2 s)))
+lentIn detailed s = orUsual s (when (detailed && begins lendWord s) (lentAfter (drop (length lendWord) s)))

@@ -5,7 +5,7 @@ ghost use mathlib.Core.Option.{none};
 ghost use Rattle.octets.specs.Split.{partAt};
 ghost use Rattle.configuration.specs.Meaning.{codecBy, configurationBy, formatInside, configInside};
 ghost use Rattle.trace_read.specs.Words.{fieldsOf};
-ghost use Rattle.trace_read.specs.Configuring.{hostIn, general, usable, generalFields, generalIn, codecOf, payloadOf, rightly, addedTo, isCodecLine, codecIn};
+ghost use Rattle.trace_read.specs.Configuring.{eitherFamily, general, usable, generalFields, generalIn, codecOf, payloadOf, rightly, addedTo, isCodecLine, codecIn};
 ghost use Rattle.trace_read.specs.Meaning.{Configures};
 ghost use Rattle.trace_read.specs.Private.{smallOf, fourNumbers, timesOf, Fails, Finds};
 ghost use Rattle.configuration.specs.Configuration.{named};
@@ -100,7 +100,7 @@ fn four_numbers(s: &[u8]) -> FourNumbers
 
 // An address of either family.
 fn read_host(s: &[u8]) -> Parsed
-    ensures { λ r. ⌜ r ≡ hostIn (now (s .entry)) ⌝ }
+    ensures { λ r. ⌜ r ≡ eitherFamily (now (s .entry)) ⌝ }
 {
     let x = read_ipv4(s);
     match x {
@@ -111,7 +111,7 @@ fn read_host(s: &[u8]) -> Parsed
 
 // The address in field 1.
 fn host(s: &[u8]) -> Parsed
-    ensures { λ r. ⌜ r ≡ hostIn (partAt 1 (fieldsOf (now (s .entry)))) ⌝ }
+    ensures { λ r. ⌜ r ≡ eitherFamily (partAt 1 (fieldsOf (now (s .entry)))) ⌝ }
 {
     read_host(part(s, b'\t', 1))
 }

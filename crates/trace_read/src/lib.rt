@@ -26,7 +26,7 @@ pub struct Configured {
     pub config: Config,
 }
 
-// How many octets are lent to an event, and where its line begins.
+// How many octets are lent to an event, and where its text begins in the line.
 pub struct Lent {
     pub room: usize,
     pub at: usize,

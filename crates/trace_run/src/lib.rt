@@ -27,7 +27,7 @@ struct Progress {
 }
 
 // What is kept from one read to the next.
-struct State {
+struct RunState {
     session: Session,
     progress: Progress,
 }
@@ -42,8 +42,8 @@ fn new_line(at: usize, going: bool) -> Progress {
     }
 }
 
-fn start() -> State {
-    State {
+fn start() -> RunState {
+    RunState {
         session: Session::new(),
         progress: new_line(0, true),
     }
@@ -69,13 +69,13 @@ fn answered(phase: Phase, at: usize, out: &[u8]) -> Progress {
 // Answers the lines that end in `part`, and gathers the beginning of the next. (`next` is always past i; the `if` shows that the loop
 // ends.)
 fn feed(
-    state: State,
+    state: RunState,
     detailed: bool,
     part: &[u8],
     line: &mut [u8],
     room: &mut [u8],
     out: &mut [u8],
-) -> State {
+) -> RunState {
     let mut session = state.session;
     let mut progress = state.progress;
     let mut i = 0;
@@ -97,7 +97,7 @@ fn feed(
             continue;
         }
     }
-    State { session, progress }
+    RunState { session, progress }
 }
 
 // The input has ended. If it can't be read, says so on standard error.
@@ -120,26 +120,26 @@ fn flushed(progress: Progress, out: &[u8]) -> Progress {
 // Reads once, and answers what has come.
 fn turn(
     fd: i32,
-    state: State,
+    state: RunState,
     detailed: bool,
     part: &mut [u8],
     line: &mut [u8],
     room: &mut [u8],
     out: &mut [u8],
-) -> State {
+) -> RunState {
     let got = libc::read(fd, part);
     if got <= 0 {
         tell_end(got);
         let session = state.session;
         let mut progress = state.progress;
         progress.going = false;
-        return State { session, progress };
+        return RunState { session, progress };
     }
     let n = io::count(got, part);
     let fed = feed(state, detailed, &part[..n], line, room, out);
     let session = fed.session;
     let progress = fed.progress;
-    State {
+    RunState {
         session,
         progress: flushed(progress, out),
     }
@@ -148,21 +148,21 @@ fn turn(
 // Answers a line that no LF ended, if there is one. Like a line that is too long it is not whole, so it is marked as too long and
 // fed the missing LF.
 fn end_line(
-    state: State,
+    state: RunState,
     detailed: bool,
     line: &mut [u8],
     room: &mut [u8],
     out: &mut [u8],
-) -> State {
+) -> RunState {
     let session = state.session;
     let mut progress = state.progress;
     if progress.len == 0 {
-        return State { session, progress };
+        return RunState { session, progress };
     }
     progress.over = true;
     progress.going = true;
     feed(
-        State { session, progress },
+        RunState { session, progress },
         detailed,
         b"\n",
         line,
@@ -172,7 +172,7 @@ fn end_line(
 }
 
 // Answers what is left at the end of the input: such a line first, then a configuration that no event followed.
-fn finish(state: State, detailed: bool, line: &mut [u8], room: &mut [u8], out: &mut [u8]) {
+fn finish(state: RunState, detailed: bool, line: &mut [u8], room: &mut [u8], out: &mut [u8]) {
     let st = end_line(state, detailed, line, room, out);
     let session = st.session;
     let progress = st.progress;

@@ -32,7 +32,7 @@ kindField (some e) = kindWord e
 unfoldable pub numberAndKind : ℕ → Option Event → List ℕ
 numberAndKind n e = numberText n ++ (blank ∷ kindField e)
 
--- the last three fields: notice, whether our own change was dropped, octets written
+-- the last three fields: `notice`, `dropped` and `written`
 abbrev pub refusalText : ℕ → List ℕ
 refusalText n = refusedShown n ++ ascii " no 0"
 

@@ -39,7 +39,7 @@ noticeWord notice.Rejected = ascii "rejected"
 noticeWord notice.Confused = ascii "confused"
 noticeWord notice.Discarded = ascii "discarded"
 
--- whether our own change was dropped
+-- whether the peer's Request cancelled our change
 unfoldable pub droppedWord : Bool → List ℕ
 droppedWord true = ascii "yes"
 droppedWord false = ascii "no"

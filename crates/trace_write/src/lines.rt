@@ -51,7 +51,7 @@ fn push_notice_then(notice: Notice, out: &mut [u8], at: usize) -> usize
     push_octet(b' ', out, k)
 }
 
-// Appends whether our own change was dropped, and a blank.
+// Appends whether the peer's Request cancelled our change, and a blank.
 fn push_dropped_then(dropped: bool, out: &mut [u8], at: usize) -> usize
     ensures { λ r. ⌜ Appends (now (out .entry)) at (droppedWord dropped ++ (blank ∷ [])) r (now (out .exit)) ⌝ }
 {
@@ -67,7 +67,7 @@ fn push_refusal(n: u8, out: &mut [u8], at: usize) -> usize
     push(b" no 0", out, k)
 }
 
-// Appends whether our own change was dropped, and how many octets were written.
+// Appends whether the peer's Request cancelled our change, and how many octets were written.
 fn push_written(dropped: bool, written: usize, out: &mut [u8], at: usize) -> usize
     ensures { λ r. ⌜ Appends (now (out .entry)) at (droppedWord dropped ++ (blank ∷ numberText written)) r (now (out .exit)) ⌝ }
 {

@@ -51,7 +51,7 @@ pub(crate) fn push_notice(notice: Notice, out: &mut [u8], at: usize) -> usize
     }
 }
 
-// Appends whether our own change was dropped.
+// Appends whether the peer's Request cancelled our change.
 pub(crate) fn push_dropped(dropped: bool, out: &mut [u8], at: usize) -> usize
     ensures { λ r. ⌜ Appends (now (out .entry)) at (droppedWord dropped) r (now (out .exit)) ⌝ }
 {
