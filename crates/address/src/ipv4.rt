@@ -7,7 +7,7 @@ ghost use Rattle.address.specs.Private.{digits_at, octet_at};
 use crate::{Address, Parsed, is_unicast};
 
 // One number of an address: its value, and where its text ends.
-#[derive(Drop)]
+#[derive(Clone, Copy)]
 enum Part {
     Octet { value: u8, end: usize },
     NoOctet,

@@ -11,14 +11,14 @@ use octets::hex::digit;
 use octets::parts::find_from;
 
 // The halves of an address while it is read.
-#[derive(Drop)]
+#[derive(Clone, Copy)]
 struct Halves {
     high: u64,
     low: u64,
 }
 
 // One side of a "::": how many groups it has, and the halves with them shifted in.
-#[derive(Drop)]
+#[derive(Clone, Copy)]
 enum GapSide {
     Groups { count: usize, halves: Halves },
     NoSide,

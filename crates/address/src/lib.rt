@@ -1,4 +1,6 @@
 // IP addresses: text to value, value to text.
+#![tactic(auto)]
+
 pub mod ipv4;
 pub mod ipv6;
 pub mod write;
@@ -7,14 +9,14 @@ ghost use Rattle.std.specs.Prelude.{◌≡◌};
 ghost use Rattle.address.specs.Kinds.{is_unicast};
 
 // An address: of 32 bits, or the two halves of 128 bits.
-#[derive(Drop)]
+#[derive(Clone, Copy)]
 pub enum Address {
     V4(u32),
     V6 { high: u64, low: u64 },
 }
 
 // What a text was read as: a unicast address, or none that the card can use.
-#[derive(Drop)]
+#[derive(Clone, Copy)]
 pub enum Parsed {
     Unicast(Address),
     Unreadable,

@@ -9,7 +9,7 @@ use crate::{Address, POWER_24, POWER_32, POWER_48};
 use octets::append::{push, push_number, push_number_then, push_octet};
 
 // A run of groups that are zero.
-#[derive(Drop)]
+#[derive(Clone, Copy)]
 struct Run {
     start: usize,
     len: usize,

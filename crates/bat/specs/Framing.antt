@@ -2,7 +2,7 @@
 -- how application data is cut into elements. Numbers 1, 2 and 3. Stricter than 4.6.1.1, which sets no bound: data has at
 -- most 2,048 octets, and a length is not 0, since it counts a compatibility octet.
 use Rattle.std.specs.Prelude.{ℕ, zero, suc, ◌+◌, ◌*◌, ◌%◌, List, [], ◌∷◌, ◌++◌, Bool, cond, length, get_or, take, drop, leb, ltb, eqb}
-use Rattle.std.proofs.Math.Option.{Option, none, some, map, Option·elim}
+use Rattle.std.proofs.Math.Option.{Option, none, some, map, Option-elim}
 
 -- ---- octets
 -- bit 8 of an octet is set
@@ -134,4 +134,4 @@ room_for entries es = cond (ltb entries (length es)) (refused 3) (taken es)
 
 -- number 1 if the data is too long, otherwise 2 if it can't be framed, otherwise 3 if the table is too small
 unfoldable pub cut : ℕ → List ℕ → Cut
-cut entries s = cond (ltb most_octets (length s)) (refused 1) (Option·elim (elements s) (refused 2) (room_for entries))
+cut entries s = cond (ltb most_octets (length s)) (refused 1) (Option-elim (elements s) (refused 2) (room_for entries))

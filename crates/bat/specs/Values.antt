@@ -2,7 +2,7 @@
 -- an element are decoded as. Simple elements come in the order of their numbers, then the two constructors. Where
 -- Q.765.5 leaves a code spare or a length open, document 01's ranges decide: outside them the element is unrecognised.
 use Rattle.std.specs.Prelude.{ℕ, suc, ◌+◌, ◌*◌, ◌%◌, List, [], ◌∷◌, Bool, true, false, ◌&&◌, cond, length, take, drop, leb, ltb, eqb}
-use Rattle.std.proofs.Math.Option.{Option, none, some, map, Option·elim}
+use Rattle.std.proofs.Math.Option.{Option, none, some, map, Option-elim}
 use Rattle.codes.specs.Codes.{is_action, is_indicator, is_signal}
 use Rattle.bat.specs.declared.Place.{Place}
 use Rattle.bat.specs.declared.Place.TheVariants.{Itself, Inner}
@@ -134,7 +134,7 @@ diagnostics_in (i ∷ a ∷ b ∷ s) =
 
 unfoldable pub report_in : List ℕ → Decoding
 report_in [] = wrong
-report_in (r ∷ s) = Option·elim (diagnostics_in s) wrong (λ ds. decoded (report r ds))
+report_in (r ∷ s) = Option-elim (diagnostics_in s) wrong (λ ds. decoded (report r ds))
 
 -- 7, bearer network connection characteristics (4.6.1.9): a single octet, at most 4
 unfoldable pub characteristics_in : List ℕ → Decoding

@@ -1,5 +1,7 @@
 // Elements of Q.765.5, the bearer association transport (BAT): the types that this crate and those above it take and
 // answer, by value. A span is a place in a slice that is passed beside it: the data, or an element's contents.
+#![tactic(auto)]
+
 pub mod framing;
 pub mod judging;
 pub mod ranges;
@@ -10,7 +12,7 @@ use octets::Span;
 pub const MOST_OCTETS: usize = 2048;
 
 // A length field: the number, and how many octets it takes.
-#[derive(Drop)]
+#[derive(Clone, Copy)]
 pub enum Size {
     Of(u16, u8),
     Missing,
@@ -18,7 +20,7 @@ pub enum Size {
 
 // An element at the front of a slice. After its identifier come `size` octets of length, the first
 // compatibility octet, `extension` more of them, and `length` octets of contents.
-#[derive(Drop)]
+#[derive(Clone, Copy)]
 pub struct Frame {
     pub identifier: u8,
     pub size: u8,
@@ -28,7 +30,7 @@ pub struct Frame {
 }
 
 // What is at the front of a slice.
-#[derive(Drop)]
+#[derive(Clone, Copy)]
 pub enum Framed {
     Whole(Frame),
     Unframed,
@@ -36,35 +38,35 @@ pub enum Framed {
 }
 
 // How many elements application data has, or the number that refuses it.
-#[derive(Drop)]
+#[derive(Clone, Copy)]
 pub enum Counted {
     Elements(usize),
     Refused(u8),
 }
 
 // A single codec: its organisation, and the octets after it.
-#[derive(Drop)]
+#[derive(Clone, Copy)]
 pub struct SingleCodec {
     pub organisation: u8,
     pub information: Span,
 }
 
 // The signal type inside a signal, with bits 7 to 1 of its own compatibility octet.
-#[derive(Drop)]
+#[derive(Clone, Copy)]
 pub struct InnerType {
     pub compatibility: u8,
     pub kind: u8,
 }
 
 // The duration inside a signal, with bits 7 to 1 of its own compatibility octet.
-#[derive(Drop)]
+#[derive(Clone, Copy)]
 pub enum InnerDuration {
     Untimed,
     Lasting { compatibility: u8, duration: u16 },
 }
 
 // The value of a decoded element. A span is a place in the element's contents.
-#[derive(Drop)]
+#[derive(Clone, Copy)]
 pub enum Value {
     Action(u8),
     Backbone(Span),
@@ -94,21 +96,21 @@ pub enum Value {
 
 // What is at fault in an unrecognised element: the element itself, or its first faulty inner element, given by the
 // place of that one's identifier in the contents.
-#[derive(Drop)]
+#[derive(Clone, Copy)]
 pub enum Place {
     Itself,
     Inner(usize),
 }
 
 // What an element's contents are read as.
-#[derive(Drop)]
+#[derive(Clone, Copy)]
 pub enum Decoding {
     Decoded(Value),
     Unrecognised(Place),
 }
 
 // What an unrecognised element asks for.
-#[derive(Drop)]
+#[derive(Clone, Copy)]
 pub enum Outcome {
     PassOn,
     DiscardElement,
@@ -117,14 +119,14 @@ pub enum Outcome {
 }
 
 // What a compatibility report says about an element: its identifier, and the index of the fault.
-#[derive(Drop)]
+#[derive(Clone, Copy)]
 pub struct Diagnostic {
     pub identifier: u8,
     pub index: usize,
 }
 
 // The judgement of an unrecognised element: its outcome, whether it asks for notice, and its diagnostic.
-#[derive(Drop)]
+#[derive(Clone, Copy)]
 pub struct Judged {
     pub outcome: Outcome,
     pub notice: bool,
@@ -132,14 +134,14 @@ pub struct Judged {
 }
 
 // The finding on an element: its value, or the judgement of an unrecognised one.
-#[derive(Drop)]
+#[derive(Clone, Copy)]
 pub enum Finding {
     Recognised(Value),
     Unknown(Judged),
 }
 
 // The outcome of application data as a whole.
-#[derive(Drop)]
+#[derive(Clone, Copy)]
 pub enum DataOutcome {
     Neither,
     DiscardAll,
@@ -147,7 +149,7 @@ pub enum DataOutcome {
 }
 
 // The answer to application data: the number that refuses it, or how many elements it has and their outcome.
-#[derive(Drop)]
+#[derive(Clone, Copy)]
 pub enum DataAnswer {
     Refused(u8),
     Taken { count: usize, outcome: DataOutcome },

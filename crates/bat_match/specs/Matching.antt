@@ -2,7 +2,7 @@
 -- first codec of the leading list that the other list also has, and writes the list of all such codecs, each once. What an element is,
 -- how octets are cut into elements and what a codec list is are defined in `Framing` and `Values` of `bat`.
 use Rattle.std.specs.Prelude.{ℕ, List, [], ◌∷◌, map, Bool, true, false, ◌&&◌, ◌||◌, cond, length, eqb}
-use Rattle.std.proofs.Math.Option.{Option, none, some, Option·elim}
+use Rattle.std.proofs.Math.Option.{Option, none, some, Option-elim}
 use Rattle.octets.specs.Chain.{when}
 use Rattle.octets.specs.Puts.{bounded}
 use Rattle.octets.specs.Words.{same}
@@ -108,7 +108,7 @@ both n (some x) (some y) rest = rest x y
 -- none.
 unfoldable pub match_of : CodecList → List PlacedCodec → MatchResult
 match_of leading cs =
-    Option·elim (first_of cs) (refused 15) (λ (c : PlacedCodec).
+    Option-elim (first_of cs) (refused 15) (λ (c : PlacedCodec).
     matched (record { chosen = c; compatibility = leading.compatibility; reduced = map (λ (d : PlacedCodec). d.codec) (first_of_each cs) }))
 
 -- Numbers 1, 2, 14 and 15, in this order; each is looked for in both strings before the next: 1 if one is too long, 2 if one

@@ -1,6 +1,6 @@
 -- Private: used only by private functions of this crate. The codecs of a list from a place on, and a string by itself.
 use Rattle.std.specs.Prelude.{ℕ, ◌+◌, ◌≤◌, ◌<◌, min, ◌≡◌, List, [], ◌∷◌, ◌++◌, Bool, true, false, not, ◌&&◌, cond, length, drop, ltb}
-use Rattle.std.proofs.Math.Option.{none, some, Option·elim}
+use Rattle.std.proofs.Math.Option.{none, some, Option-elim}
 use Rattle.octets.specs.declared.Span.{Span}
 use Rattle.octets.specs.declared.Put.{Put}
 use Rattle.octets.specs.Puts.{bounded}
@@ -90,9 +90,9 @@ pub data Alone : Type 0 where
 
 unfoldable pub alone : List ℕ → Alone
 alone s =
-    Option·elim (bounded most_octets s) (refused_alone 1) (λ (t : List ℕ).
-    Option·elim (elements t) (refused_alone 2) (λ es.
-    Option·elim (only_list es) (refused_alone 14) list))
+    Option-elim (bounded most_octets s) (refused_alone 1) (λ (t : List ℕ).
+    Option-elim (elements t) (refused_alone 2) (λ es.
+    Option-elim (only_list es) (refused_alone 14) list))
 
 -- it can be framed, and has at most one element
 pub record OneAtMost (s : List ℕ) : Type 0 where

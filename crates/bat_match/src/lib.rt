@@ -1,5 +1,7 @@
 // Two codec lists matched (document 02, E1): the first codec of the leading list that the other list also has, and the
 // list of the codecs that are in both, each once, written as an element.
+#![tactic(auto)]
+
 mod lists;
 mod search;
 mod selection;
@@ -17,14 +19,14 @@ use octets::{Put, Span};
 const MOST_ELEMENTS: usize = MOST_OCTETS / 3;
 
 // The place of the chosen codec's whole element in the leading list, or the number that refuses the two strings.
-#[derive(Drop)]
+#[derive(Clone, Copy)]
 pub enum Choice {
     At(Span),
     Refused(u8),
 }
 
 // The chosen codec, and what the writer of the reduced list answers: how many octets it wrote, or a number.
-#[derive(Drop)]
+#[derive(Clone, Copy)]
 pub struct MatchAnswer {
     pub choice: Choice,
     pub reduced: Put,
@@ -33,7 +35,7 @@ pub struct MatchAnswer {
 // The same for C. `refusal` is the number that refuses the two strings, or 4 if only the writing is refused. A field that
 // does not apply is 0.
 #[repr(C)]
-#[derive(Drop)]
+#[derive(Clone, Copy)]
 pub struct AnswerForC {
     pub refusal: u8,
     pub start: usize,
@@ -42,28 +44,28 @@ pub struct AnswerForC {
 }
 
 // The codec list in a string: its first compatibility octet, and where its contents begin. They end with the string.
-#[derive(Drop)]
+#[derive(Clone, Copy)]
 struct FramedList {
     compatibility: u8,
     from: usize,
 }
 
 // The list in a string, or the number that refuses it.
-#[derive(Drop)]
+#[derive(Clone, Copy)]
 enum OneList {
     Is(FramedList),
     Refused(u8),
 }
 
 // The lists in two strings, or the number that refuses them.
-#[derive(Drop)]
+#[derive(Clone, Copy)]
 enum TwoLists {
     Are(FramedList, FramedList),
     Refused(u8),
 }
 
 // A codec at a place of a list: the octets of its organisation, type and configuration, and the place where it ends.
-#[derive(Drop)]
+#[derive(Clone, Copy)]
 struct FramedCodec {
     contents: Span,
     end: usize,

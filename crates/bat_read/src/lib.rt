@@ -1,4 +1,6 @@
 // Elements read and judged.
+#![tactic(auto)]
+
 pub mod constructors;
 mod simple;
 
@@ -19,7 +21,7 @@ use bat::{
 };
 
 // An element at the front of a slice, and the finding on it.
-#[derive(Drop)]
+#[derive(Clone, Copy)]
 pub enum Examined {
     Element(Frame, Finding),
     Unframed,
@@ -27,21 +29,21 @@ pub enum Examined {
 }
 
 // A listed diagnostic, and the place in the data after its element.
-#[derive(Drop)]
+#[derive(Clone, Copy)]
 pub enum Listed {
     Next(Diagnostic, usize),
     NoneLeft,
 }
 
 // The diagnostic that one element lists.
-#[derive(Drop)]
+#[derive(Clone, Copy)]
 enum Own {
     Lists(Diagnostic),
     ListsNone,
 }
 
 // The place of the first inner element that is not a single codec, if there is one.
-#[derive(Drop)]
+#[derive(Clone, Copy)]
 pub enum Offence {
     At(usize),
     Nowhere,

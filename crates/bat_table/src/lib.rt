@@ -1,5 +1,7 @@
 // The caller's table: one entry for each element, from the front. Functions over a table are proved by hand, by a walk of
 // their code, so they are few and short. Everything that looks at the data is in `bat::framing` and in `steps`.
+#![tactic(auto)]
+
 mod steps;
 
 ghost use Rattle.std.specs.Prelude.{◌≡◌, length, get_or};
@@ -12,7 +14,7 @@ use bat::Counted;
 // Where an element is: its identifier, the place of its identifier octet in the data, and how many
 // octets the whole element has.
 #[repr(C)]
-#[derive(Drop)]
+#[derive(Clone, Copy)]
 pub struct Entry {
     pub identifier: u8,
     pub start: usize,
@@ -20,14 +22,14 @@ pub struct Entry {
 }
 
 // What is to be done: the answer to the data, and how many entries are stored.
-#[derive(Drop)]
+#[derive(Clone, Copy)]
 struct Plan {
     answer: Counted,
     stored: usize,
 }
 
 // An element's entry, and the place after the element.
-#[derive(Drop)]
+#[derive(Clone, Copy)]
 struct Step {
     entry: Entry,
     next: usize,

@@ -1,4 +1,6 @@
 // Elements written: the octets of a value's element, with the shortest length and one compatibility octet.
+#![tactic(auto)]
+
 mod contents;
 mod element;
 mod ranges;

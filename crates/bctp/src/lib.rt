@@ -1,4 +1,6 @@
 // The bearer control tunnelling protocol (Q.1990): two indicators before a message.
+#![tactic(auto)]
+
 ghost use Rattle.std.specs.Prelude.{◌≡◌, ◌&&◌, List, [], ◌∷◌, ℕ, ◌+◌, ◌≤◌, length, drop};
 ghost use Rattle.std.proofs.Math.Option.{map};
 ghost use Rattle.octets.specs.Puts.{Puts};
@@ -24,7 +26,7 @@ const VERSION_ERROR: u8 = VERSION_1 + ERROR;
 const IPBCP: u8 = 32;
 
 // What a packet was.
-#[derive(Drop)]
+#[derive(Clone, Copy)]
 pub enum Packet {
     // A refusal's number.
     Refused(u8),

@@ -1,7 +1,7 @@
 -- Document 01, "One endpoint": which commands, Requests and Accepteds are right, the bearer that they put in force, and what is
 -- written. A Request of ours is given by its media line and attributes: a stream. `force` is the bearer in force, if there is one.
 use Rattle.std.specs.Prelude.{ℕ, List, [], ◌∷◌, Bool, true, false, ◌&&◌, cond, eqb, ltb}
-use Rattle.std.proofs.Math.Option.{Option, none, some, Option·elim}
+use Rattle.std.proofs.Math.Option.{Option, none, some, Option-elim}
 use Rattle.octets.specs.Text.{ascii}
 use Rattle.octets.specs.Words.{same}
 use Rattle.address.specs.declared.Address.{Address}
@@ -46,7 +46,7 @@ offered c k payload ptime = record {
 -- neither 0 nor in range
 unfoldable pub commanded : Configuration → ℕ → ℕ → ℕ → Option Stream
 commanded c entry payload ptime =
-    Option·elim (entry_in c.codecs entry) none
+    Option-elim (entry_in c.codecs entry) none
     (λ k. cond (suits k payload && ptime_none_or_in_range c ptime) (some (offered c k payload ptime)) none)
 
 -- ---- a peer's Request

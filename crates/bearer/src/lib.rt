@@ -1,5 +1,7 @@
 // Our open Request, the bearer in force, and what a message is to an endpoint. A Request and a bearer each hold a media line, with
 // its texts in an array beside it.
+#![tactic(auto)]
+
 ghost use Rattle.std.specs.Prelude.{◌≡◌};
 ghost use Rattle.bearer.specs.Meaning.{bearer_as, places_as};
 
@@ -13,14 +15,14 @@ use octets::append::push;
 pub const MOST_OFFERED: usize = 12 + MOST_NAME;
 
 // A Request of ours.
-#[derive(Drop)]
+#[derive(Clone, Copy)]
 pub struct Request {
     pub stream: Stream,
     pub text: [u8; MOST_OFFERED],
 }
 
 // A bearer, with the peer's address and port.
-#[derive(Drop)]
+#[derive(Clone, Copy)]
 pub struct Bearer {
     pub address: Address,
     pub stream: Stream,
@@ -28,7 +30,7 @@ pub struct Bearer {
 }
 
 // What a message is to an endpoint. The texts of a stream are places in the message.
-#[derive(Drop)]
+#[derive(Clone, Copy)]
 pub enum Heard {
     // Number 8 or 9.
     Unreadable,

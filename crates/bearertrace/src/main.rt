@@ -1,4 +1,6 @@
 // Document 01's trace program: gives the events on standard input to one endpoint, and prints a line for each.
+#![tactic(auto)]
+
 use libc::STDIN_FILENO;
 use trace_read::{MOST_LINE, USUAL_ROOM};
 

@@ -1,4 +1,6 @@
 // Reading a message, for C to call: what the benchmark measures.
+#![tactic(auto)]
+
 ghost use Rattle.std.specs.Prelude.{◌≡◌};
 ghost use Rattle.ipbcp.specs.Reading.{read_message};
 ghost use Rattle.card_message.specs.ForC.{reading_for_c};

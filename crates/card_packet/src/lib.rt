@@ -1,5 +1,7 @@
 // Reads a message and writes it again in a tunnel packet, for C to call: in a test, other programs read the
 // packets.
+#![tactic(auto)]
+
 ghost use Rattle.std.specs.Prelude.{◌≡◌};
 ghost use Rattle.ipbcp.specs.Reading.{read_message};
 ghost use Rattle.card_packet.specs.Again.{put_for_c, Rewrites};

@@ -1,4 +1,6 @@
 // The codes of identifiers 1, 13 and 14 that have a meaning. The number in a comment is the code at which a run of entries begins.
+#![tactic(auto)]
+
 ghost use Rattle.std.specs.Prelude.{◌≡◌};
 ghost use Rattle.codes.specs.Codes.{is_action, is_indicator, is_signal};
 

@@ -1,4 +1,6 @@
 // An endpoint's configuration: whether it is valid, and which codec a command or a message names.
+#![tactic(auto)]
+
 pub mod check;
 pub mod codecs;
 
@@ -14,21 +16,21 @@ pub const MOST_CODECS: usize = 8;
 pub const MOST_NAME: usize = 32;
 
 // What identifies a codec entry: a payload, or an encoding name of this many octets.
-#[derive(Drop)]
+#[derive(Clone, Copy)]
 pub enum Format {
     Payload(u8),
     Named(usize),
 }
 
 // A codec entry. An enum can't hold an array, so the name is beside the format.
-#[derive(Drop)]
+#[derive(Clone, Copy)]
 pub struct Codec {
     pub format: Format,
     pub name: [u8; MOST_NAME],
 }
 
 // A configuration, of which the first `count` codecs are entries.
-#[derive(Drop)]
+#[derive(Clone, Copy)]
 pub struct Config {
     pub own: Address,
     pub port: u16,
@@ -43,14 +45,14 @@ pub struct Config {
 }
 
 // Whether a configuration is valid, or document 01's number.
-#[derive(Drop)]
+#[derive(Clone, Copy)]
 pub enum Checked {
     Usable,
     Refused(u8),
 }
 
 // A codec entry that was looked up; the codec is blank if it is not known.
-#[derive(Drop)]
+#[derive(Clone, Copy)]
 pub struct FoundCodec {
     pub known: bool,
     pub codec: Codec,

@@ -1,5 +1,7 @@
 // What the lines of a Request or Accepted say: those before the ipbcp line (the preamble), those between it and the media
 // line, and those after the media line.
+#![tactic(auto)]
+
 mod lines;
 
 ghost use Rattle.std.specs.Prelude.{◌≡◌};
@@ -13,7 +15,7 @@ use octets::spans::text;
 use octets::words::{equals, starts};
 
 // What the lines before the ipbcp line have said.
-#[derive(Drop)]
+#[derive(Clone, Copy)]
 pub struct Preamble {
     // How many of the five needed lines there were, capped at five.
     pub had: u8,
@@ -21,7 +23,7 @@ pub struct Preamble {
 }
 
 // The preamble with one more line.
-#[derive(Drop)]
+#[derive(Clone, Copy)]
 pub enum Extended {
     Go(Preamble),
     Wrong,

@@ -1,4 +1,6 @@
 // One bearer endpoint: a method for each event, and `handle` over them.
+#![tactic(auto)]
+
 mod commands;
 mod messages;
 mod timers;
@@ -21,7 +23,7 @@ pub const LEAST_ROOM: usize = 512;
 
 // An endpoint: its configuration and its book. Side and bearer have a meaning while a bearer is in force, the Request while it is
 // open.
-#[derive(Drop)]
+#[derive(Clone, Copy)]
 pub struct Endpoint {
     pub config: Config,
     pub state: State,
@@ -32,7 +34,7 @@ pub struct Endpoint {
 
 // The reply to an event: document 01's number; or the state after it, the notice, the number of octets at the front of the output
 // buffer, and whether the peer's Request cancelled our pending change.
-#[derive(Drop)]
+#[derive(Clone, Copy)]
 pub enum Reply {
     Refused(u8),
     Done {
@@ -44,14 +46,14 @@ pub enum Reply {
 }
 
 // The endpoint after an event, and the reply.
-#[derive(Drop)]
+#[derive(Clone, Copy)]
 pub struct Answer {
     pub endpoint: Endpoint,
     pub reply: Reply,
 }
 
 // An event as a value, for `handle`, which takes the octets of a message beside it.
-#[derive(Drop)]
+#[derive(Clone, Copy)]
 pub enum Event {
     // A codec entry, counted from 1, a payload and a packet time.
     SetUp(u16, u16, u16),
@@ -64,7 +66,7 @@ pub enum Event {
 
 // Whether the configuration is valid, and a new endpoint with it. If it is not valid the methods still answer, but theorems that
 // take a valid configuration do not apply.
-#[derive(Drop)]
+#[derive(Clone, Copy)]
 pub struct Created {
     pub checked: Checked,
     pub endpoint: Endpoint,

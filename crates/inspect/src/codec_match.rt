@@ -6,7 +6,7 @@ use notation::{push_refused, smaller};
 use octets::{Number, append, parts, spans, words};
 
 // The list that leads.
-#[derive(Drop)]
+#[derive(Clone, Copy)]
 enum Lead {
     Offered,
     Own,

@@ -3,7 +3,7 @@ use notation::{read_length, read_octets};
 use octets::{Number, parts, words};
 
 // How many octets the digits of a field stand for, or that it has something else.
-#[derive(Drop)]
+#[derive(Clone, Copy)]
 pub(crate) enum Unpacked {
     Octets(usize),
     Wrong,

@@ -1,4 +1,6 @@
 // Shows what the card reads: answers each line of standard input with one line.
+#![tactic(auto)]
+
 mod addresses;
 mod answer;
 mod codec_match;
@@ -20,7 +22,7 @@ use line_output::{Output, flush, make_room};
 const LINE_ROOM: usize = 40960;
 
 // What is kept from octet to octet.
-#[derive(Drop)]
+#[derive(Clone, Copy)]
 struct InspectState {
     // The line that is being gathered (`line_input::gather`).
     len: usize,

@@ -1,7 +1,7 @@
 -- Private: used only by private functions of this crate. They read a message once, from its first line to its last:
 -- the lines before the ipbcp line, those up to the media line, and those after it.
 use Rattle.std.specs.Prelude.{ℕ, ◌≡◌, List, true, cond, drop, eqb}
-use Rattle.std.proofs.Math.Option.{Option, none, some, Option·elim}
+use Rattle.std.proofs.Math.Option.{Option, none, some, Option-elim}
 use Rattle.octets.specs.declared.Span.{Span}
 use Rattle.octets.specs.Chain.{when}
 use Rattle.octets.specs.Spans.{text_of}
@@ -31,7 +31,7 @@ after_text d m = when (in_lines m) (after_lines d (lines m))
 
 -- the same after a line that may be wrong
 unfoldable pub after_text_if : Option Draft → List ℕ → Option Draft
-after_text_if o m = Option·elim o none λ d. after_text d m
+after_text_if o m = Option-elim o none λ d. after_text d m
 
 -- o, if it has all seven needed lines
 unfoldable pub complete : Option Draft → Option Draft

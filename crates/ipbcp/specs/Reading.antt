@@ -1,7 +1,7 @@
 -- Document 01, "Message, version 1": what a message says. Its lines are in `Lines` of `sdp`, each line's meaning in `Draft`
 -- of `description` and `Attributes` of `media`, its version and type in `Types`.
 use Rattle.std.specs.Prelude.{ℕ, List, [], ◌∷◌, Bool, true, false, ◌&&◌, cond, length, eqb, leb}
-use Rattle.std.proofs.Math.Option.{Option, none, some, Option·elim}
+use Rattle.std.proofs.Math.Option.{Option, none, some, Option-elim}
 use Rattle.sdp.specs.Lines.{lines}
 use Rattle.address.specs.declared.Address.{Address}
 use Rattle.media.specs.Stream.{Stream}
@@ -22,7 +22,7 @@ pub data Reading : Type 0 where
 -- the draft of all lines, if none is wrong
 unfoldable pub after_lines : Draft → List (List ℕ) → Option Draft
 after_lines d [] = some d
-after_lines d (t ∷ ts) = Option·elim (after_line d t) none λ e. after_lines e ts
+after_lines d (t ∷ ts) = Option-elim (after_line d t) none λ e. after_lines e ts
 
 -- number 10: a wrong line, or not all seven that are needed
 unfoldable pub concluded : MessageType → Option Draft → Reading

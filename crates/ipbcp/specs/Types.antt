@@ -1,6 +1,6 @@
 -- Document 01, "Message, version 1": the version and the type of a message, and number 9.
 use Rattle.std.specs.Prelude.{ℕ, List, [], ◌∷◌, ◌++◌, cond, drop, length, eqb, leb}
-use Rattle.std.proofs.Math.Option.{Option, some, Option·elim, map}
+use Rattle.std.proofs.Math.Option.{Option, some, Option-elim, map}
 use Rattle.octets.specs.Chain.{when, number}
 use Rattle.octets.specs.Text.{ascii, blank}
 use Rattle.octets.specs.Words.{begins, same}
@@ -41,7 +41,7 @@ typed_from s =
 
 -- the same as a `Head`; number 9 refuses `Untyped`
 unfoldable pub head_from : List ℕ → Head
-head_from s = Option·elim (typed_from s) Untyped (λ h. h)
+head_from s = Option-elim (typed_from s) Untyped (λ h. h)
 
 -- s without the blank at its start, if it has one
 unfoldable pub without_blank : List ℕ → List ℕ

@@ -1,4 +1,6 @@
 // Q.1970 messages (IPBCP) of version 1: what they are, and reading them.
+#![tactic(auto)]
+
 pub mod types;
 
 ghost use Rattle.std.specs.Prelude.{◌≡◌};
@@ -20,7 +22,7 @@ use sdp::Line;
 pub const MOST_READ: usize = 512;
 
 // The type of a message.
-#[derive(Drop)]
+#[derive(Clone, Copy)]
 pub enum MessageType {
     Request,
     Accepted,
@@ -29,21 +31,21 @@ pub enum MessageType {
 }
 
 // The type that a word names.
-#[derive(Drop)]
+#[derive(Clone, Copy)]
 enum Word {
     Known(MessageType),
     Unknown,
 }
 
 // What the ipbcp line says: the version and the type, if both are readable.
-#[derive(Drop)]
+#[derive(Clone, Copy)]
 pub enum Head {
     Typed { version: u8, kind: MessageType },
     Untyped,
 }
 
 // The answer to a message.
-#[derive(Drop)]
+#[derive(Clone, Copy)]
 pub enum Message {
     // A refusal's number.
     Refused(u8),
@@ -61,7 +63,7 @@ pub enum Message {
 }
 
 // A message to be written. The texts of a stream are places in the source that is passed with it.
-#[derive(Drop)]
+#[derive(Clone, Copy)]
 pub enum Body {
     Request(Stream),
     Accepted(Stream),

@@ -1,4 +1,6 @@
 // Q.1970 messages (IPBCP) of version 1, written.
+#![tactic(auto)]
+
 mod lines;
 mod ranges;
 mod stream;

@@ -1,4 +1,6 @@
 // Lines ended by LF, gathered in the caller's buffer from octets that arrive in parts of any length.
+#![tactic(auto)]
+
 ghost use Rattle.std.specs.Prelude.{◌≡◌, ◌||◌, ltb};
 ghost use Rattle.line_input.specs.Gather.{Gathers};
 
@@ -7,7 +9,7 @@ use octets::parts::find_from;
 use octets::spans::{after, up_to};
 
 // What a part of the input gave to the line that is being gathered.
-#[derive(Drop)]
+#[derive(Clone, Copy)]
 pub struct Gathered {
     // How many octets of the line are in the buffer.
     pub len: usize,

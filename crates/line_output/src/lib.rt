@@ -1,10 +1,12 @@
 // Output that waits at the front of the caller's buffer until it is written.
+#![tactic(auto)]
+
 ghost use Rattle.std.specs.Prelude.{◌≡◌, ◌-◌, ◌≤◌, length};
 
 use libc::{STDERR_FILENO, STDOUT_FILENO};
 
 // What a program has to print. Contracts can't describe I/O; tests cover it.
-#[derive(Drop)]
+#[derive(Clone, Copy)]
 pub struct Output {
     // How many octets wait.
     pub at: usize,

@@ -1,4 +1,6 @@
 // One media line of a message and the attributes after it.
+#![tactic(auto)]
+
 mod attributes;
 pub mod inside;
 pub mod limit;
@@ -23,7 +25,7 @@ use texts::{Four, cut_four, inner, skip};
 pub const MOST_ATTRIBUTES: usize = 256;
 
 // At most three texts of a source.
-#[derive(Drop)]
+#[derive(Clone, Copy)]
 pub struct Texts {
     pub count: u8,
     pub first: Span,
@@ -33,7 +35,7 @@ pub struct Texts {
 
 // What a media line and its attributes say, with the places of its texts in a source. An empty rtpmap means that there is none,
 // and so does a ptime of 0.
-#[derive(Drop)]
+#[derive(Clone, Copy)]
 pub struct Stream {
     pub media: Span,
     pub port: u16,
@@ -45,7 +47,7 @@ pub struct Stream {
 }
 
 // What a line was read as.
-#[derive(Drop)]
+#[derive(Clone, Copy)]
 pub enum Taken {
     Stream(Stream),
     Wrong,

@@ -1,4 +1,6 @@
 // How the programs show octets, texts and refusals, and how they read octets and the length of a buffer.
+#![tactic(auto)]
+
 ghost use Rattle.std.specs.Prelude.{◌≡◌, ◌++◌, min};
 ghost use Rattle.octets.specs.Append.{Appends};
 ghost use Rattle.octets.specs.Spans.{text_of};

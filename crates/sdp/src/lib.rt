@@ -1,4 +1,6 @@
 // The lines of a message (RFC 4566), without their ends.
+#![tactic(auto)]
+
 ghost use Rattle.std.specs.Prelude.{◌≡◌, drop};
 ghost use Rattle.std.proofs.Math.Option.{some};
 ghost use Rattle.sdp.specs.Lines.{is_plain, all_plain, in_lines};
@@ -8,7 +10,7 @@ ghost use Rattle.sdp.specs.Private.{PlainTo, Ends, is_start};
 use octets::Span;
 use octets::parts::last_three;
 
-#[derive(Drop)]
+#[derive(Clone, Copy)]
 pub enum Line {
     // A line: its letter, its value (what comes after the `=`), and where the next line starts.
     Text {

@@ -1,4 +1,6 @@
 // Tokens of a text and what comes after its first blank, and parts of parts of a text as spans.
+#![tactic(auto)]
+
 ghost use Rattle.std.specs.Prelude.{◌≡◌, drop};
 ghost use Rattle.octets.specs.Spans.{text_of};
 ghost use Rattle.texts.specs.Tokens.{after_blank, after_token, tokens_of};
@@ -10,21 +12,21 @@ use octets::parts::find_from;
 use octets::spans::after;
 
 // A text of two tokens: how long the first is. The second is what comes after it and its blank.
-#[derive(Drop)]
+#[derive(Clone, Copy)]
 pub enum Two {
     Lengths(usize),
     Other,
 }
 
 // A text of three tokens: how long the first two are.
-#[derive(Drop)]
+#[derive(Clone, Copy)]
 pub enum Three {
     Lengths(usize, usize),
     Other,
 }
 
 // A text of four tokens: how long the first three are.
-#[derive(Drop)]
+#[derive(Clone, Copy)]
 pub enum Four {
     Lengths(usize, usize, usize),
     Other,

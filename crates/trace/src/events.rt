@@ -30,7 +30,7 @@ use trace_write::lines::{push_bad, push_event};
 const MOST_MESSAGE: usize = MOST_LINE / 2;
 
 // What a line asks of the endpoint, with a message's digits read.
-#[derive(Drop)]
+#[derive(Clone, Copy)]
 enum Ready {
     // An event. The octets of a message, `len` of them, are at the front of a buffer.
     Event { event: Event, len: usize },

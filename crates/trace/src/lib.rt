@@ -1,4 +1,6 @@
 // A trace, line by line: what a line prints, and what it leaves.
+#![tactic(auto)]
+
 mod configuring;
 mod events;
 
@@ -11,7 +13,7 @@ use trace_read::configure::read_general;
 use trace_write::lines::push_refused_line;
 
 // How far a trace has come.
-#[derive(Drop)]
+#[derive(Clone, Copy)]
 pub enum Phase {
     // No line has come.
     Start,
@@ -23,7 +25,7 @@ pub enum Phase {
 }
 
 // What the lines so far have left: the endpoint, and the number of its last event.
-#[derive(Drop)]
+#[derive(Clone, Copy)]
 pub struct Session {
     pub phase: Phase,
     pub number: u64,
@@ -31,7 +33,7 @@ pub struct Session {
 }
 
 // A session after a line, and where the next octet of output goes.
-#[derive(Drop)]
+#[derive(Clone, Copy)]
 pub struct Stepped {
     pub session: Session,
     pub at: usize,

@@ -1,6 +1,6 @@
 -- Document 01, "Trace program": the lines that configure the endpoint. `none` is refused by 12.
 use Rattle.std.specs.Prelude.{ℕ, List, [], ◌∷◌, ◌++◌, Bool, ◌&&◌, cond, length, eqb, ltb}
-use Rattle.std.proofs.Math.Option.{Option, none, some, Option·elim}
+use Rattle.std.proofs.Math.Option.{Option, none, some, Option-elim}
 use Rattle.octets.specs.Chain.{when, number}
 use Rattle.octets.specs.Decimal.{all_digits}
 use Rattle.octets.specs.Split.{part_at}
@@ -79,7 +79,7 @@ unfoldable pub added_to : Configuration → Codec → Option Configuration
 added_to c k = when (ltb (length c.codecs) most_codecs) (some (with_codec c k))
 
 unfoldable pub codec_for : Configuration → List (List ℕ) → Option Configuration
-codec_for c ps = when (eqb (length ps) 2) (Option·elim (codec_of (part_at 1 ps)) none (added_to c))
+codec_for c ps = when (eqb (length ps) 2) (Option-elim (codec_of (part_at 1 ps)) none (added_to c))
 
 -- the line is one of the `K` lines, right or wrong
 abbrev pub is_codec_line : List ℕ → Bool

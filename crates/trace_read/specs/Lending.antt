@@ -1,7 +1,7 @@
 -- The output buffer that is lent to an event: 2,048 octets. In a detailed trace a line may begin with `B`, a tab, a length and a tab,
 -- which are not part of the line's 1,200 octets; then the buffer has that length, if it is less.
 use Rattle.std.specs.Prelude.{ℕ, ◌+◌, List, [], ◌∷◌, Bool, ◌&&◌, length, drop}
-use Rattle.std.proofs.Math.Option.{Option, none, some, Option·elim}
+use Rattle.std.proofs.Math.Option.{Option, none, some, Option-elim}
 use Rattle.octets.specs.Chain.{when}
 use Rattle.octets.specs.Decimal.{on_number}
 use Rattle.octets.specs.Split.{has, before}
@@ -34,7 +34,7 @@ lent_after t =
 
 -- the usual, if nothing is asked for
 abbrev pub or_usual : List ℕ → Option Lent → Lent
-or_usual s x = Option·elim x (usual s) (λ (l : Lent). l)
+or_usual s x = Option-elim x (usual s) (λ (l : Lent). l)
 
 -- A line whose prefix is wrong is no event, since no event begins with `B`.
 unfoldable pub lent_in : Bool → List ℕ → Lent

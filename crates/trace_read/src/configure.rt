@@ -24,14 +24,14 @@ use octets::parts::{part, separators};
 use octets::words::{digit_run, equals};
 
 // A number that fits in an octet, or none.
-#[derive(Drop)]
+#[derive(Clone, Copy)]
 enum Small {
     Value(u8),
     Bad,
 }
 
 // The packet times and timers of a configuration.
-#[derive(Drop)]
+#[derive(Clone, Copy)]
 enum FourNumbers {
     Numbers(u8, u8, u8, u8),
     Wrong,

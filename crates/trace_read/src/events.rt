@@ -18,7 +18,7 @@ use octets::parts::{part, separators};
 use octets::words::{equals, starts};
 
 // The numbers of a command.
-#[derive(Drop)]
+#[derive(Clone, Copy)]
 enum ThreeNumbers {
     Numbers(u16, u16, u16),
     Wrong,

@@ -1,4 +1,6 @@
 // Reads the lines of a trace: an event, what configures the endpoint, the length of an output buffer.
+#![tactic(auto)]
+
 pub mod configure;
 pub mod events;
 pub mod lend;
@@ -13,7 +15,7 @@ pub const MOST_LINE: usize = 1200;
 pub const USUAL_ROOM: usize = 2048;
 
 // What a line asks of the endpoint.
-#[derive(Drop)]
+#[derive(Clone, Copy)]
 pub enum Asked {
     Event(Event),
     // A message. Its digits come after the first two octets of the line, and are not read yet.
@@ -22,14 +24,14 @@ pub enum Asked {
 }
 
 // A configuration as far as it was read. If it is not right, it must not be used.
-#[derive(Drop)]
+#[derive(Clone, Copy)]
 pub struct Configured {
     pub right: bool,
     pub config: Config,
 }
 
 // How many octets are lent to an event, and where its text begins in the line.
-#[derive(Drop)]
+#[derive(Clone, Copy)]
 pub struct Lent {
     pub room: usize,
     pub at: usize,

@@ -1,4 +1,6 @@
 // Runs a trace over one descriptor: lines in, lines out, to the end of the input.
+#![tactic(auto)]
+
 ghost use Rattle.trace_run.specs.Run.{SameLengths};
 
 use libc::STDERR_FILENO;
@@ -15,7 +17,7 @@ pub const MOST_DETAIL: usize = 4096;
 const LINE_ROOM: usize = 8192;
 
 // What is kept from line to line besides the session.
-#[derive(Drop)]
+#[derive(Clone, Copy)]
 struct Progress {
     // The line that is being gathered (`line_input::gather`).
     len: usize,
@@ -26,7 +28,7 @@ struct Progress {
 }
 
 // What is kept from one read to the next.
-#[derive(Drop)]
+#[derive(Clone, Copy)]
 struct RunState {
     session: Session,
     progress: Progress,

@@ -1,4 +1,6 @@
 // The trace program, with the octets written and the bearer in force on each line, and with output buffers of any length.
+#![tactic(auto)]
+
 use libc::STDIN_FILENO;
 use trace_read::USUAL_ROOM;
 use trace_run::MOST_DETAIL;

@@ -1,11 +1,13 @@
 // Runs the traces in the files that are named, and prints each file's name before its trace. The words `plain` and `detailed` say how
 // the files after them are printed, plain at first. The files after `octets` are read one octet at a time.
+#![tactic(auto)]
+
 use libc::STDOUT_FILENO;
 use octets::words::equals;
 use trace_read::USUAL_ROOM;
 use trace_run::MOST_DETAIL;
 
-#[derive(Drop)]
+#[derive(Clone, Copy)]
 struct Manner {
     detailed: bool,
     slow: bool,

@@ -1,0 +1,19 @@
+use Prim.Native.Nat.{◌-◌}
+use borrow.Author.Rules.{rules}
+use Rattle.address.proofs.SideLaws.{side_read}
+use Rattle.address.proofs.ipv6.read_side.Goals as goal
+
+pub returns-then-s-lt1 : goal.returns-then-s-lt1
+returns-then-s-lt1 c = search (side_read, rules)
+
+pub loop-g-init : goal.loop-g-init
+loop-g-init c = search (side_read, rules)
+
+pub returns-in_default : goal.returns-in_default
+returns-in_default c = search (side_read, rules)
+
+pub returns-then-s-e : goal.returns-then-s-e
+returns-then-s-e c = search (side_read, rules)
+
+pub loop-g-preserved : goal.loop-g-preserved
+loop-g-preserved c = search (side_read, rules)

@@ -1,0 +1,13 @@
+use borrow.Author.Rules.{rules}
+use Rattle.sdp.proofs.EndLaws.{ending}
+use Prim.Native.Nat.{◌-◌}
+use Rattle.sdp.proofs.find_end.Goals as goal
+
+pub loop-n-preserved : goal.loop-n-preserved
+loop-n-preserved c = search (ending, rules)
+
+pub returns-else-is_plain : goal.returns-else-is_plain
+returns-else-is_plain c = search (ending, rules)
+
+pub returns : goal.returns
+returns c = search (ending, rules)
