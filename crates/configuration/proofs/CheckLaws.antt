@@ -64,9 +64,9 @@ module _ (c : Config) where
   unfolding config_inside
   codecs_many h = rw (lt-leb c.count 8 h)
 
-  module _ {X : Type 0} (g : Place → X) (w : length (map g c.codecs) ≡ 8) (few : c.count ≤ 8) where
+  module _ (eight : length c.codecs ≡ 8) (few : c.count ≤ 8) where
     l : c.count ≡ length (codecs_by c)
-    l = (count_few c g w few).is
+    l = (count_few c eight few).is
 
     pub codecs_start : 1 ≤ c.count
         → (all_formats_inside (take c.count c.codecs) && all_right (codecs_by c)) ≡ (config_inside c && right_codecs (codecs_by c))

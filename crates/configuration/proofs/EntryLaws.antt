@@ -21,11 +21,8 @@ module _ (c : Config) where
   unfolding codecs_by
   length_codecs = length-map (take c.count c.codecs) codec_by ∙ length-take c.count c.codecs
 
-  -- the array has eight elements; g says how one is kept, and any g will do
-  module _ {X : Type 0} (g : Place → X) (w : length (map g c.codecs) ≡ 8) where
-    l : length c.codecs ≡ 8
-    l = sym (length-map c.codecs g) ∙ w
-
+  -- the array has eight elements
+  module _ (l : length c.codecs ≡ 8) where
     pub count_all : 8 < c.count → EntryCount c 8
     count_all h = record { is = omega (arith, length_codecs, l); few = omega arith }
 

@@ -19,13 +19,8 @@ returns-then-u-m c = search (fronts, rules)
 
 pub returns-then-x-m : goal.returns-then-x-m
 returns-then-x-m c =
-    let marked = c in
-    let counted = marked.before in
-    let behind = counted.before.before in
-    let sized = behind.before.before.before in
-    let length-read = sized.before.before in
-    front_framed _ (omega arith) _ length-read.before.after.ensures _ length-read.read-size.ensures _ _ (cc) behind.before.if2.false _
-    behind.after2.ensures (omega arith) _ counted.up_to_lem.ensures _ marked.count-unmarked.ensures _ (omega arith) c.octet_at.ensures
+    front_framed _ (omega arith) _ c.after-t.ensures _ c.read_size-size.ensures _ _ (cc) c.if-n-eq0.false _
+    c.after-u.ensures (omega arith) _ c.up_to-c.ensures _ c.count_unmarked-x.ensures _ (omega arith) c.octet_at.ensures
 
 pub returns : goal.returns
 returns c = search (fronts, rules)

@@ -1,0 +1,14 @@
+-- `lists` meets its contract: whether the diagnostic is listed decides what is added.
+-- Assumes nothing.
+use Rattle.bat_read.proofs.ListedLaws.{owning}
+use borrow.Author.Rules.{rules}
+use Rattle.bat_read.proofs.lists.Goals as goal
+
+pub returns-then-is_listed : goal.returns-then-is_listed
+returns-then-is_listed c = λ n ls. search (owning, rules)
+
+pub returns-in-Recognised : goal.returns-in-Recognised
+returns-in-Recognised c = λ n ls. search (owning, rules)
+
+pub returns-else-is_listed : goal.returns-else-is_listed
+returns-else-is_listed c = λ n ls. search (owning, rules)

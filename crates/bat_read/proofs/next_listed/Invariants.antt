@@ -1,0 +1,13 @@
+-- `next_listed` meets its contract: what is listed from the place on is always what is listed from the start.
+-- Assumes nothing.
+use Prim.Native.Nat.{◌-◌}
+use mathlib.Core.Path.{◌≡◌}
+use lib.ListN.{length, drop}
+use Rattle.bat_read.specs.Examining.{listings}
+use Rattle.bat_read.proofs.next_listed.Given as goal
+
+abbrev pub invariant-loop-at : goal.invariant-loop-at
+invariant-loop-at l = listings l.pass l.at (drop l.at l.data) ≡ listings l.pass l.from (drop l.from l.data)
+
+abbrev pub decreases-loop-at : goal.decreases-loop-at
+decreases-loop-at l = length l.data - l.at

@@ -1,0 +1,19 @@
+-- `simple::characteristics` meets its contract: the tests are those of `characteristics_in`.
+-- Assumes nothing.
+use Rattle.octets.proofs.Pick.{picks, flags, some_is}
+use Rattle.bat.specs.ValueMeaning.{value_inside, value_in, value_by, decoding_in}
+use Rattle.bat.specs.Values.{characteristics_in}
+use borrow.Author.Rules.{rules}
+use Rattle.bat_read.proofs.simple.characteristics.Goals as goal
+
+pub returns-then-s-ne1 : goal.returns-then-s-ne1
+unfolding decoding_in value_in value_inside value_by characteristics_in
+returns-then-s-ne1 c = search (some_is, picks, flags, rules)
+
+pub returns-then-b-le4 : goal.returns-then-b-le4
+unfolding decoding_in value_in value_inside value_by characteristics_in
+returns-then-b-le4 c = search (some_is, picks, flags, rules)
+
+pub returns : goal.returns
+unfolding decoding_in value_in value_inside value_by characteristics_in
+returns c = search (some_is, picks, flags, rules)

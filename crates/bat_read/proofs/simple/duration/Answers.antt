@@ -1,0 +1,15 @@
+-- `simple::duration` meets its contract: the test is that of `duration_in`.
+-- Assumes nothing.
+use Rattle.octets.proofs.Pick.{picks, flags, some_is}
+use Rattle.bat.specs.ValueMeaning.{value_inside, value_in, value_by, decoding_in}
+use Rattle.bat.specs.Values.{duration_in}
+use borrow.Author.Rules.{rules}
+use Rattle.bat_read.proofs.simple.duration.Goals as goal
+
+pub returns-then-s-ne2 : goal.returns-then-s-ne2
+unfolding decoding_in value_in value_inside value_by duration_in
+returns-then-s-ne2 c = search (some_is, picks, flags, rules)
+
+pub returns : goal.returns
+unfolding decoding_in value_in value_inside value_by duration_in
+returns c = search (some_is, picks, flags, rules)
