@@ -220,9 +220,8 @@ fn for_c(m: MatchAnswer) -> AnswerForC
     }
 }
 
-// `match_lists` for C. The own list leads unless own_leads is 0.
-#[unsafe(no_mangle)]
-pub extern "C" fn bat_match_codecs(
+// `match_lists` as C calls it, by the crate `bat_match_c`. The own list leads unless own_leads is 0.
+pub fn bat_match_codecs(
     offered: &[u8],
     own: &[u8],
     own_leads: u8,

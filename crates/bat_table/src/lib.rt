@@ -67,10 +67,9 @@ pub fn entry_at(table: &[Entry], i: usize) -> Entry
     }
 }
 
-// `store_elements` for C. Its answer is one number: the count, or octets::REFUSED plus the number that refuses the
-// data.
-#[unsafe(no_mangle)]
-pub extern "C" fn bat_table_store(data: &[u8], table: &mut [Entry]) -> usize
+// `store_elements` as C calls it, by the crate `bat_table_c`. Its answer is one number: the count, or octets::REFUSED plus
+// the number that refuses the data.
+pub fn bat_table_store(data: &[u8], table: &mut [Entry]) -> usize
     ensures { (result ≡ count_for_c (count_of (cut (length table.old) «data».now))) × (table.new ≡ table_after «data».now table.old) }
 {
     steps::code(store_elements(data, table))
