@@ -6,10 +6,7 @@ set -euo pipefail
 root=$(cd "$(dirname "$0")/.." && pwd)
 work=$(mktemp -d)
 trap 'rm -rf "$work"' EXIT
-log=$(cd "$root" && rt staticlib bat_match 2>&1) || {
-    printf '%s\n' "$log" >&2
-    exit 1
-}
+"$root/tools/staticlib.sh" bat_match
 cc -std=c11 -O2 -Wall -Wextra -I"$root/include" "$root/bench/match.c" "$root/target/staticlib/libbat_match.a" \
     -o "$work/match"
 

@@ -13,10 +13,7 @@ long=2000
 messages=(request:171:5000 longest:512:5000 confused:85:256 wrong:170:10)
 work=$(mktemp -d)
 trap 'rm -rf "$work"' EXIT
-log=$(cd "$root" && rt staticlib card_message 2>&1) || {
-    printf '%s\n' "$log" >&2
-    exit 1
-}
+"$root/tools/staticlib.sh" card_message
 
 # build READER FLAG..
 build() {

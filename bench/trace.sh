@@ -20,7 +20,7 @@ many=1000000
 many_times=5
 work=$(mktemp -d)
 trap 'rm -rf "$work"' EXIT
-log=$(cd "$root" && rt check bearertrace 2>&1) || {
+log=$(cd "$root/crates/bearertrace" && rt run < /dev/null 2>&1) || {
     printf '%s\n' "$log" >&2
     exit 1
 }
@@ -52,7 +52,7 @@ memory() {
     { cat "$work/$2"; awk '/^VmHWM/ { print $2 }' "/proc/$!/status" >&3; } 3>&1 > "$work/pipe"
     wait
 }
-bearertrace=$root/target/bin/bearertrace
+bearertrace=$root/crates/bearertrace/out/bearertrace
 # A line for each event, after the line of field names. A round has two bad lines and ends idle, so all rounds are alike.
 "$bearertrace" < "$work/$few" > "$work/printed"
 lines=$(wc -l < "$work/printed")

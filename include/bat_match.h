@@ -1,6 +1,6 @@
 /*
- * Matching of two codec lists, for C: link target/staticlib/libbat_match.a, which `rt staticlib bat_match`
- * proves and writes.
+ * Matching of two codec lists, for C: link target/staticlib/libbat_match.a, which
+ * `tools/staticlib.sh bat_match` proves and writes.
  */
 #ifndef BAT_MATCH_H
 #define BAT_MATCH_H

@@ -1,6 +1,6 @@
 /*
  * The table of element entries, for C: link target/staticlib/libbat_table.a, which
- * `rt staticlib bat_table` proves and writes.
+ * `tools/staticlib.sh bat_table` proves and writes.
  */
 #ifndef BAT_TABLE_H
 #define BAT_TABLE_H

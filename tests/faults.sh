@@ -3,8 +3,8 @@
 # can't be read, is empty, is cut at every octet, comes an octet at a time, is interrupted or is not there yet; and
 # output that is full, closed, limited, has no reader or a slow one. Each time the program must end by itself, say on
 # standard error what has failed and nothing else, and print the right answers, or the first octets of them if the
-# output is not taken (docs/DECISIONS.md, "Failures of input and output"). The programs are the built ones (default: in
-# target/bin). Ends with status 1 if something is wrong. Not part of the gate; needs Linux and Python.
+# output is not taken (docs/DECISIONS.md, "Failures of input and output"). The programs are the built ones by default
+# (crates/NAME/out/NAME). Ends with status 1 if something is wrong. Not part of the gate; needs Linux and Python.
 set -u
 export LC_ALL=C
 cd "$(dirname "$0")/.." || exit 2

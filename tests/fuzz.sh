@@ -7,9 +7,9 @@
 #   - answers as tests/model.py does (inspect), or as the rules of one endpoint in fuzz.py say (traces);
 #   - answers the same if the input comes in pieces, and if bad lines are put in between (some of the lines).
 # bearertrace and tracedetail are given the same traces, and must agree. CHECKED more lines (default: 4,000; 0 for none)
-# are run under valgrind. SEED (default: 1) chooses the lines. The programs are the built ones (default: in target/bin).
-# Prints how often each kind of answer came up; in a run of 500,000 lines or more each has to. Ends with status 1 if
-# something is wrong, and keeps the input in a file. Not part of the gate. Needs Python 3.
+# are run under valgrind. SEED (default: 1) chooses the lines. By default the programs are the built ones
+# (crates/NAME/out/NAME). Prints how often each kind of answer came up; in a run of 500,000 lines or more each has to.
+# Ends with status 1 if something is wrong, and keeps the input in a file. Not part of the gate. Needs Python 3.
 set -u
 lines=${1:-1000000}
 seed=${2:-1}

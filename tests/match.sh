@@ -7,10 +7,7 @@ root=$(cd "$(dirname "$0")/.." && pwd)
 vectors=${1:-$root/tests/vectors}
 work=$(mktemp -d)
 trap 'rm -rf "$work"' EXIT
-log=$(cd "$root" && rt staticlib bat_match 2>&1) || {
-    printf '%s\n' "$log" >&2
-    exit 1
-}
+"$root/tools/staticlib.sh" bat_match
 cc -std=c11 -D_POSIX_C_SOURCE=200809L -O2 -Wall -Wextra -I"$root/include" "$root/tests/match.c" \
     "$root/target/staticlib/libbat_match.a" -o "$work/match"
 "$work/match" "$vectors/match.in" "$vectors/match.out"

@@ -1,7 +1,7 @@
 #!/usr/bin/env bash
 # samples.sh [BEARERTRACE [INSPECT]]: compares what the programs print for samples/ with what README.md and
 # docs/PROGRAMS.md say that they print. In the table of docs/PROGRAMS.md `..` stands for digits that are left out. The
-# programs are the built ones (default: in target/bin). Ends with status 1 if a line differs.
+# programs are the built ones by default (crates/NAME/out/NAME). Ends with status 1 if a line differs.
 set -u
 cd "$(dirname "$0")/.." || exit 2
 . tests/program.sh bearertrace "${1:-}"

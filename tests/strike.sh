@@ -3,7 +3,7 @@
 # N.book says of each line after the configuration whether it is kept or struck (`none` if it is not an event). The
 # lines that are kept are given to a fresh run, which must print the same states, notices, octets and bearers for
 # them as the run of the whole trace did. The book is an outside program's; both runs are tracedetail's (default: the
-# built one in target/bin). DIRECTORY is tests/vectors by default. Ends with status 1 if a line differs.
+# built one, crates/tracedetail/out/tracedetail). DIRECTORY is tests/vectors by default. Ends with status 1 if a line differs.
 set -u
 cd "$(dirname "$0")/.." || exit 2
 . tests/program.sh tracedetail "${1:-}"

@@ -7,10 +7,7 @@ root=$(cd "$(dirname "$0")/.." && pwd)
 vectors=${1:-$root/tests/vectors}
 work=$(mktemp -d)
 trap 'rm -rf "$work"' EXIT
-log=$(cd "$root" && rt staticlib bat_table 2>&1) || {
-    printf '%s\n' "$log" >&2
-    exit 1
-}
+"$root/tools/staticlib.sh" bat_table
 cc -std=c11 -D_POSIX_C_SOURCE=200809L -O2 -Wall -Wextra -I"$root/include" "$root/tests/table.c" \
     "$root/target/staticlib/libbat_table.a" -o "$work/table"
 "$work/table" "$vectors/elements.in" "$vectors/elements.out"

@@ -1,8 +1,8 @@
 #!/usr/bin/env bash
 # traces.sh [BEARERTRACE [TRACEDETAIL [DIRECTORY]]]: runs each trace of DIRECTORY/plain-traces through bearertrace and
 # each of DIRECTORY/traces through tracedetail, and compares what they print with the answers next to it (N.out,
-# N.octets). The programs are the built ones in target/bin, and DIRECTORY is tests/vectors, by default. Names the first
-# line of each trace that differs, and ends with status 1 if there is one.
+# N.octets). By default the programs are the built ones (crates/NAME/out/NAME), and DIRECTORY is tests/vectors. Names the
+# first line of each trace that differs, and ends with status 1 if there is one.
 set -u
 cd "$(dirname "$0")/.." || exit 2
 . tests/program.sh bearertrace "${1:-}"

@@ -1,7 +1,7 @@
 #!/usr/bin/env bash
 # vectors.sh [PROGRAM [MODE..]]: runs tests/vectors/MODE.in through inspect, for these modes or for all, each
 # line after its mode word, and compares the answers with MODE.out. PROGRAM is the built inspect (default:
-# target/bin/inspect); it can also be tests/model.py. Ends with status 1 if a line differs.
+# crates/inspect/out/inspect); it can also be tests/model.py. Ends with status 1 if a line differs.
 set -u
 . "$(dirname "$0")/program.sh" inspect "${1:-}"
 cd "$(dirname "$0")/.." || exit 2
