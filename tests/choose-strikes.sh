@@ -40,10 +40,10 @@ cases > "$work/cases"
 -- as the verdict that the program's own answer shows. Computed, as one table. tests/choose-strikes.sh writes this file.
 -- Assumes nothing.
 use Prim.Native.Nat.{ℕ, suc}
-use mathlib.Core.Path.{_≡_, refl}
-use mathlib.Core.List.{List, [], _∷_, map}
-use Rattle·book.specs.Book.{Verdict, refused, discarded, opened, agreed, failed, released, requestConfused, requestRight, requestWrong}
-use Rattle·book.specs.Strike.{keptOf, sheetOf}
+use mathlib.Core.Path.{◌≡◌, refl}
+use mathlib.Core.List.{List, [], ◌∷◌, map}
+use Rattle.book.specs.Book.{Verdict, refused, discarded, opened, agreed, failed, released, request_confused, request_right, request_wrong}
+use Rattle.book.specs.Strike.{kept_of, sheet_of}
 
 -- the verdicts; what stands in bearers, Requests and octets does not matter here
 refusal : Verdict ℕ ℕ
@@ -65,13 +65,13 @@ free : Verdict ℕ ℕ
 free = released
 
 confuse : Verdict ℕ ℕ
-confuse = requestConfused []
+confuse = request_confused []
 
 accept : Verdict ℕ ℕ
-accept = requestRight 0 []
+accept = request_right 0 []
 
 reject : Verdict ℕ ℕ
-reject = requestWrong []
+reject = request_wrong []
 
 -- an event: its number, and its verdict
 record Numbered : Type 0 where
@@ -85,7 +85,7 @@ numbered n (v ∷ vs) = record { number = n; verdict = v } ∷ numbered (suc n) 
 
 -- the numbers of the events that are left
 left : List (Verdict ℕ ℕ) → List ℕ
-left vs = map (λ l. l .event .number) (keptOf (λ k e. e .verdict) (numbered 1 vs))
+left vs = map (λ l. l.event.number) (kept_of (λ k e. e.verdict) (numbered 1 vs))
 
 record Case : Type 0 where
   pub verdicts : List (Verdict ℕ ℕ)
@@ -98,9 +98,9 @@ END
     echo '    ∷ []'
     cat << 'END'
 
-struck-outside : map (λ x. left (x .verdicts)) cases ≡ map (λ x. x .kept) cases
-unfolding cases left numbered refusal discard command agree fail free confuse accept reject sheetOf
-struck-outside = refl
+struck_outside : map (λ x. left x.verdicts) cases ≡ map (λ x. x.kept) cases
+unfolding cases left numbered refusal discard command agree fail free confuse accept reject sheet_of
+struck_outside = refl
 END
 } > "$out"
 echo "$(wc -l < "$work/cases") traces, $(sed 's/; kept.*//' "$work/cases" | grep -o ∷ | wc -l) events"

@@ -221,12 +221,7 @@ fn for_c(m: MatchAnswer) -> AnswerForC
 }
 
 // `match_lists` as C calls it, by the crate `bat_match_c`. The own list leads unless own_leads is 0.
-pub fn bat_match_codecs(
-    offered: &[u8],
-    own: &[u8],
-    own_leads: u8,
-    out: &mut [u8],
-) -> AnswerForC
+pub fn bat_match_codecs(offered: &[u8], own: &[u8], own_leads: u8, out: &mut [u8]) -> AnswerForC
     ensures { MatchesForC (matching_led (own_leads_of own_leads) own.now offered.now) out.old result out.new }
 {
     for_c(match_lists(offered, own, own_leads != 0, out))
