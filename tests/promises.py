@@ -74,11 +74,15 @@ def is_type(crate, name):
     return any(re.search(pattern, read(path)) for path in glob.glob("crates/%s/src/*.rt" % crate))
 
 
-def is_definition(crate, file, name):
-    """A definition of specs/, not a field of a record."""
-    path = "crates/%s/specs/%s.antt" % (crate, file)
+def defines(text, name):
+    """A file of specs/ defines this name, not as a field of a record."""
     pattern = r"(?m)^ *(unfoldable|abbrev) pub {0} :|^pub {0} :|^ *pub (record|data) {0}(?!\S)".format(re.escape(name))
-    return os.path.exists(path) and re.search(pattern, read(path)) is not None
+    return re.search(pattern, text) is not None
+
+
+def is_definition(crate, file, name):
+    path = "crates/%s/specs/%s.antt" % (crate, file)
+    return os.path.exists(path) and defines(read(path), name)
 
 
 def states(text, name):
@@ -157,7 +161,8 @@ def check_places(page, public):
 
 
 def check_prose(path, public):
-    """Names with a place anywhere on a page; edits; names without a place that look like functions or theorems."""
+    """Names with a place anywhere on a page; edits; names without a place that look like functions, definitions or
+    theorems."""
     text = read(path)
     for name, crate, file in placed(text)[0]:
         if file:
@@ -168,23 +173,25 @@ def check_prose(path, public):
             wrong.append("%s: no %s (%s)" % (path, name, ", ".join(filter(None, (crate, file)))))
     crates = set(os.listdir("crates"))
     last = {n for _, n in public} | {n.split("::")[-1] for _, n in public}
+    defined = "\n".join(read(f) for f in glob.glob("crates/*/specs/*.antt"))
     proved = "\n".join(read(f) for f in glob.glob("crates/*/proofs/*.antt"))
     for name in set(names(text)):
         crate, _, edit = name.partition("/")
         if crate in crates and re.fullmatch(r"\w+", edit):
             if not os.path.exists("crates/%s/must-fail/%s.edit" % (crate, edit)):
                 wrong.append("%s: no edit %s" % (path, name))
-        if re.fullmatch(r"[a-z]\w*(::\w+)+|[a-z]+(_[a-z0-9]+)+|[A-Z]\w*::\w+", name) and name not in last | crates:
+        if re.fullmatch(r"[a-z]\w*(::\w+)+|[A-Z]\w*::\w+", name) and name not in last:
             wrong.append("%s: no public function %s" % (path, name))
-        if re.fullmatch(r"[A-Za-z]+(-[a-z0-9]+)+", name) and not states(proved, name):
-            wrong.append("%s: no theorem %s" % (path, name))
+        if re.fullmatch(r"[A-Za-z]+([-_][a-z0-9]+)+", name) and name not in last | crates:
+            if not defines(defined, name) and not states(proved, name):
+                wrong.append("%s: no function, definition or theorem %s" % (path, name))
 
 
 def check_paths(path):
     """`crates/..`, `tests/..` and the like exist, and so do the files of "`Puts` in `crates/octets/specs`"."""
     text = read(path)
     for name in set(names(text)):
-        if re.fullmatch(r"(crates|tests|docs|bench|samples|include)/[\w./*-]+", name) and not glob.glob(name):
+        if re.fullmatch(r"(crates|tests|tools|docs|bench|samples|include)/[\w./*-]+", name) and not glob.glob(name):
             wrong.append("%s: no %s" % (path, name))
     for group in re.finditer(r"(`\w+`(?:, `\w+`)*) in `(crates/\w+/(?:specs|proofs))`", text):
         for name in names(group.group(1)):
