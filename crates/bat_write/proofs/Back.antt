@@ -56,7 +56,17 @@ module _ (s : List ℕ) (v : code.Value) (c : ℕ) (l : List ℕ) (n : ℕ) (f :
   back_of : (o : Option Value) → value_in s v ≡ o → Puts (element_octets_in (meant c) o) l (Octets n) f → WrittenBack s v c n f
   unfolding element_octets_in
   back_of none is p = absurd (puts_no l n f p)
-  back_of (some w) is p = record { value = w; stands = is; back = back_some c l n f w p }
+  back_of (some w) is p =
+      let b : ElementBack w (meant c) n f = back_some c l n f w p in
+      record {
+        value = w;
+        stands = is;
+        element = b.element;
+        fronts = b.fronts;
+        covers = b.covers;
+        means = b.means;
+        decodes = b.decodes;
+      }
 
   pub written_back : Puts (element_octets_in (meant c) (value_in s v)) l (Octets n) f → WrittenBack s v c n f
   written_back p = back_of (value_in s v) refl p

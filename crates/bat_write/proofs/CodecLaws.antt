@@ -9,7 +9,7 @@ use lib.ListN.{length, drop, drop_of_length-le}
 use lib.Seq.{drop-drop}
 use lib.Dec.{eqb}
 use native.Mathlib.Omega.{arith}
-use borrow.Author.Tests.{le-leb}
+use borrow.Author.Tests.{lt-ltb, le-leb}
 use Rattle.octets.specs.Append.{Appends}
 use Rattle.octets.proofs.AppendLaws.{append_nil, append_then}
 use Rattle.octets.proofs.CaseLaws.{by_bool}
@@ -18,7 +18,7 @@ use Rattle.bat.specs.declared.Framed.{Framed}
 use Rattle.bat.specs.declared.Framed.TheVariants.{Whole, Unframed, Ended}
 use Rattle.bat.specs.Framing.{octet, Element, whole, first, unframed, ended, front, walk}
 use Rattle.bat.specs.Values.{InnerCodec, Codecs, all_codecs, offence, with_single, on_codecs, is_single, codec_then, codecs_in, inner_codec, right_single, single_codec, meant}
-use Rattle.bat.specs.Writing.{element_text, codec_text, codecs_text, contents_text, value_in_range}
+use Rattle.bat.specs.Writing.{element_text, codec_text, codecs_text, contents_text, inner_codecs_in_range, value_in_range}
 use Rattle.bat.specs.FramingMeaning.{element_in, front_in, WholeLength}
 use Rattle.bat.proofs.WalkLaws.{size_small, front_size, front_nil, walk_ended, walk_unframed, walk_first, fold_ended, fold_unframed, fold_first, by_front}
 use Rattle.bat.proofs.CountLaws.{frame_ended, frame_unframed, frame_first}
@@ -85,14 +85,17 @@ pub single_right : (e : Element) → is_single e ≡ true → right_single (sing
 unfolding is_single
 single_right e p = ((and-eq-true_iff (eqb e.identifier 5) (right_single (single_codec e.contents))).0 p).1
 
--- s is the codecs cs: they are written as s is anew, all of them and the selected ones
+-- s is the codecs cs: they are written as s is anew, all of them and the selected ones, each is in range, and there are some
+-- where s is not empty
 pub record Listed (s : List ℕ) (cs : List InnerCodec) : Type 0 where
   pub text : codecs_anew s ≡ codecs_text cs
+  pub right : inner_codecs_in_range cs ≡ true
+  pub many : 1 ≤ length s → 1 ≤ length cs
   pub selected_text : (ms : List ℕ) → selected_anew ms s ≡ codecs_text (selected ms cs)
 
 listed_with_lem : (s : List ℕ) (e : Element) (t : List ℕ) (x : Codecs) (cs : List InnerCodec) → front s ≡ first e t
     → ((bs : List InnerCodec) → x ≡ all_codecs bs → Listed t bs) → is_single e ≡ true → with_single (inner_codec e) x ≡ all_codecs cs → Listed s cs
-unfolding with_single codecs_text
+unfolding with_single codecs_text inner_codecs_in_range
 listed_with_lem s e t (offence n) cs q ih single p = absurd (let z : ◌≡◌ {A = ℕ} 0 1 = cc in omega arith)
 listed_with_lem s e t (all_codecs bs) cs q ih single p =
     let is : inner_codec e ∷ bs ≡ cs = cc in
@@ -101,16 +104,18 @@ listed_with_lem s e t (all_codecs bs) cs q ih single p =
     rw (← is)
     (record {
       text = anew_first s e t q ∙ rw (codec_text_lem e.contents right, rest.text);
+      right = rw (lt-ltb (meant e.compatibility) 128 (omega arith), right, rest.right);
+      many = λ h. omega arith;
       selected_text = λ ms. selected_first s ms e t q ∙ rw (rest.selected_text (drop 1 ms), selected_more (inner_codec e) bs ms, codec_text_lem e.contents right);
     })
 
 listed_at : (s : List ℕ) (d : ℕ) (cs : List InnerCodec) → walk codec_then offence (all_codecs []) d s ≡ all_codecs cs → Listed s cs
-unfolding codec_then codecs_text
+unfolding codec_then codecs_text inner_codecs_in_range
 listed_at =
     by_front (λ (s : List ℕ). (d : ℕ) (cs : List InnerCodec) → walk codec_then offence (all_codecs []) d s ≡ all_codecs cs → Listed s cs)
     (λ d cs p. let w = walk_ended codec_then offence (all_codecs []) d [] front_nil in
     let is : ◌≡◌ {A = List InnerCodec} [] cs = cc in
-    rw (← is) (record { text = anew_ended [] front_nil; selected_text = λ ms. selected_ended [] ms front_nil ∙ rw (selected_none ms) }))
+    rw (← is) (record { text = anew_ended [] front_nil; right = refl; many = λ h. h; selected_text = λ ms. selected_ended [] ms front_nil ∙ rw (selected_none ms) }))
     (λ s q d cs p. absurd (let w = walk_unframed codec_then offence (all_codecs []) d s q in let z : ◌≡◌ {A = ℕ} 0 1 = cc in omega arith))
     (λ s e t q ih d cs p.
     let x = walk codec_then offence (all_codecs []) (d + length (whole e)) t in

@@ -14,8 +14,12 @@ pub record ElementBack (v : Value) (c n : ℕ) (f : List ℕ) : Type 0 where
   pub means : meant element.compatibility ≡ c
   pub decodes : decoding element.identifier element.contents ≡ decoded v
 
--- the same of the value that v means, with the compatibility bits of the octet c
+-- At the front of f, in n octets, is an element that is decoded as the value that v means, with the compatibility bits of c.
 pub record WrittenBack (s : List ℕ) (v : code.Value) (c n : ℕ) (f : List ℕ) : Type 0 where
   pub value : Value
   pub stands : value_in s v ≡ some value
-  pub back : ElementBack value (meant c) n f
+  pub element : Element
+  pub fronts : front f ≡ first element (drop n f)
+  pub covers : length (whole element) ≡ n
+  pub means : meant element.compatibility ≡ meant c
+  pub decodes : decoding element.identifier element.contents ≡ decoded value
