@@ -1,5 +1,5 @@
 use borrow.Author.Rules.{rules}
-use Rattle.ipbcp.proofs.WholeLaws.{streams}
+use Rattle.ipbcp.proofs.WholeLaws.{streams, stream_wrong}
 use Rattle.sdp.proofs.CutLaws.{loop_falls}
 use Prim.Native.Nat.{◌-◌}
 use Rattle.ipbcp.proofs.read_stream.Goals as goal
@@ -20,7 +20,7 @@ pub loop-i-preserved : goal.loop-i-preserved
 loop-i-preserved c = search (streams, rules)
 
 pub returns-else-is_skipped : goal.returns-else-is_skipped
-returns-else-is_skipped c = search (streams, rules)
+returns-else-is_skipped c = search (stream_wrong, rules)
 
 pub returns : goal.returns
 returns c = search (streams, rules)
