@@ -1,0 +1,12 @@
+-- `match_strings` meets its contract: it matches if the two strings are lists.
+-- Assumes nothing.
+use borrow.Author.Rules.{rules}
+use Rattle.bat_match.proofs.ListLaws.{lists_are}
+use Rattle.bat_match.proofs.AnswerLaws.{answers_refused}
+use Rattle.bat_match.proofs.match_strings.Goals as goal
+
+pub match_both-requires : goal.match_both-requires
+match_both-requires c = search (lists_are, rules)
+
+pub returns-in-Refused : goal.returns-in-Refused
+returns-in-Refused c = search (answers_refused, rules)

@@ -1,0 +1,7 @@
+-- `stream::push_port` meets its contract: its texts come one after the other.
+-- Assumes nothing.
+use Rattle.ipbcp_write.proofs.StreamLaws.{port_then}
+use Rattle.ipbcp_write.proofs.stream.push_port.Goals as goal
+
+pub returns : goal.returns
+returns c = port_then _ _ _ _ _ _ _ _ _ _ _ c.text.ensures c.push_number_then.ensures c.push_token-b.ensures c.push-a.ensures

@@ -1,0 +1,11 @@
+-- `stream::push_rtpmap` meets its contract: there is a text, or no line.
+-- Assumes nothing.
+use borrow.Author.Rules.{rules}
+use Rattle.ipbcp_write.proofs.StreamLaws.{rtpmap_none, rtpmap_some}
+use Rattle.ipbcp_write.proofs.stream.push_rtpmap.Goals as goal
+
+pub returns-then-t-eq0 : goal.returns-then-t-eq0
+returns-then-t-eq0 c = search (rtpmap_none, rules)
+
+pub returns : goal.returns
+returns c = rtpmap_some _ _ _ _ _ c.text-t.ensures _ _ _ _ _ _ (search rules) c.push_rest.ensures c.push_number_then-b.ensures c.push-a.ensures
