@@ -1,11 +1,12 @@
 // Output that waits at the front of the caller's buffer until it is written.
 #![tactic(auto)]
 
-ghost use Rattle.std.specs.Prelude.{◌≡◌, ◌-◌, ◌≤◌, length};
+ghost use Rattle.std.specs.Prelude.{◌≡◌, ◌-◌, ◌≤◌, IsTrue, length, take};
+ghost use Rattle.line_output.specs.Written.{Moves};
 
-use libc::{STDERR_FILENO, STDOUT_FILENO};
+use std::io::Write;
 
-// What a program has to print. Contracts can't describe I/O; tests cover it.
+// What a program has to print.
 #[derive(Clone, Copy)]
 pub struct Output {
     // How many octets wait.
@@ -14,24 +15,29 @@ pub struct Output {
     pub taken: bool,
 }
 
-// Writes octets to standard output; a failure is reported on standard error.
-fn write(octets: &[u8]) -> bool {
-    if io::write_all(STDOUT_FILENO, octets) {
+// Writes octets to `to`; a failure is reported on `errors`.
+fn write<W: Write, E: Write>(to: &mut W, errors: &mut E, octets: &[u8]) -> bool
+    ensures { IsTrue result → Moves (W.contents to.old) (W.contents to.new) octets.now (take 0 octets.now) }
+{
+    if to.write_all(octets).is_ok() {
         return true;
     }
-    io::write_all(STDERR_FILENO, b"the output was not taken\n");
+    // Where this fails too, nothing is left to report to.
+    let _ = errors.write_all(b"the output was not taken\n");
     false
 }
 
 // Writes what waits.
-pub fn flush(out: &[u8], output: Output) -> Output
-    ensures { result.at ≡ 0 }
+pub fn flush<W: Write, E: Write>(to: &mut W, errors: &mut E, out: &[u8], output: Output) -> Output
+    ensures emptied { result.at ≡ 0 }
+    ensures written { IsTrue result.taken → Moves (W.contents to.old) (W.contents to.new)
+        (take output.at out.now) (take result.at out.now) }
 {
     let at = output.at;
     if at <= out.len() {
         return Output {
             at: 0,
-            taken: write(&out[0..at]),
+            taken: write(to, errors, &out[0..at]),
         };
     }
     Output {
@@ -41,15 +47,23 @@ pub fn flush(out: &[u8], output: Output) -> Output
 }
 
 // Writes what waits if fewer than `least` octets are free after it.
-pub fn make_room(out: &[u8], output: Output, least: usize) -> Output
-    ensures { result.at ≤ length out.now - least }
+pub fn make_room<W: Write, E: Write>(
+    to: &mut W,
+    errors: &mut E,
+    out: &[u8],
+    output: Output,
+    least: usize,
+) -> Output
+    ensures room { result.at ≤ length out.now - least }
+    ensures written { IsTrue result.taken → Moves (W.contents to.old) (W.contents to.new)
+        (take output.at out.now) (take result.at out.now) }
 {
     let at = output.at;
     if out.len() < least {
-        return flush(out, output);
+        return flush(to, errors, out, output);
     }
     if out.len() - least < at {
-        return flush(out, output);
+        return flush(to, errors, out, output);
     }
     output
 }

@@ -1,0 +1,2 @@
+-- What writing does to the octets that wait.
+pub mod Written
