@@ -1,12 +1,13 @@
-// Runs a trace over one descriptor: lines in, lines out, to the end of the input.
+// Runs a trace over one reader and one writer: lines in, lines out, to the end of the input.
 #![tactic(auto)]
 
+ghost use Rattle.std.specs.Prelude.{◌≤◌, length};
 ghost use Rattle.trace_run.specs.Run.{SameLengths};
 
-use libc::STDERR_FILENO;
 use line_input::gather;
 use line_output::{Output, flush, make_room};
 use octets::spans::up_to;
+use std::io::{Read, Write};
 use trace::{Phase, Session};
 
 // The most octets of a line of a detailed trace, without its LF: the length of a buffer may come before the event.
@@ -62,15 +63,23 @@ fn goes_on(phase: Phase) -> bool {
 }
 
 // A line has been answered, which leaves this phase and `at` octets to write. Makes room for the next line.
-fn answered(phase: Phase, at: usize, out: &[u8]) -> Progress {
+fn answered<W: Write, E: Write>(
+    to: &mut W,
+    errors: &mut E,
+    phase: Phase,
+    at: usize,
+    out: &[u8],
+) -> Progress {
     let mut progress = new_line(at, goes_on(phase));
-    progress.output = make_room(out, progress.output, LINE_ROOM);
+    progress.output = make_room(to, errors, out, progress.output, LINE_ROOM);
     progress
 }
 
 // Answers the lines that end in `part`, and gathers the beginning of the next. (`next` is always past i; the `if` shows that the loop
 // ends.)
-fn feed(
+fn feed<W: Write, E: Write>(
+    to: &mut W,
+    errors: &mut E,
     state: RunState,
     detailed: bool,
     part: &[u8],
@@ -95,33 +104,48 @@ fn feed(
             let stepped = session.step(detailed, text, !g.over, room, out, progress.output.at);
             session = stepped.session;
             let phase = session.phase;
-            progress = answered(phase, stepped.at, out);
+            progress = answered(to, errors, phase, stepped.at, out);
             continue;
         }
     }
     RunState { session, progress }
 }
 
-// The input has ended. If it can't be read, says so on standard error.
-fn tell_end(got: isize) {
-    if got < 0 {
-        io::write_all(STDERR_FILENO, b"the input can't be read\n");
+// Reads once, and answers how many octets came: none at the end of the input. If it can't be read, says so on `errors` and takes
+// that for its end.
+fn read_part<R: Read, E: Write>(input: &mut R, errors: &mut E, part: &mut [u8]) -> usize
+    ensures { result ≤ length part.new }
+{
+    match input.read(part) {
+        Ok(n) => n,
+        Err(_) => {
+            // Where this fails too, nothing is left to report to.
+            let _ = errors.write_all(b"the input can't be read\n");
+            0
+        }
     }
 }
 
 // Writes the output that waits.
-fn flushed(progress: Progress, out: &[u8]) -> Progress {
+fn flushed<W: Write, E: Write>(
+    to: &mut W,
+    errors: &mut E,
+    progress: Progress,
+    out: &[u8],
+) -> Progress {
     let mut p = progress;
     let output = p.output;
     if output.taken {
-        p.output = flush(out, output);
+        p.output = flush(to, errors, out, output);
     }
     p
 }
 
 // Reads once, and answers what has come.
-fn turn(
-    fd: i32,
+fn turn<R: Read, W: Write, E: Write>(
+    input: &mut R,
+    to: &mut W,
+    errors: &mut E,
     state: RunState,
     detailed: bool,
     part: &mut [u8],
@@ -129,27 +153,27 @@ fn turn(
     room: &mut [u8],
     out: &mut [u8],
 ) -> RunState {
-    let got = libc::read(fd, part);
-    if got <= 0 {
-        tell_end(got);
+    let n = read_part(input, errors, part);
+    if n == 0 {
         let session = state.session;
         let mut progress = state.progress;
         progress.going = false;
         return RunState { session, progress };
     }
-    let n = io::count(got, part);
-    let fed = feed(state, detailed, &part[..n], line, room, out);
+    let fed = feed(to, errors, state, detailed, &part[..n], line, room, out);
     let session = fed.session;
     let progress = fed.progress;
     RunState {
         session,
-        progress: flushed(progress, out),
+        progress: flushed(to, errors, progress, out),
     }
 }
 
 // Answers a line that no LF ended, if there is one. Like a line that is too long it is not whole, so it is marked as too long and
 // fed the missing LF.
-fn end_line(
+fn end_line<W: Write, E: Write>(
+    to: &mut W,
+    errors: &mut E,
     state: RunState,
     detailed: bool,
     line: &mut [u8],
@@ -164,6 +188,8 @@ fn end_line(
     progress.over = true;
     progress.going = true;
     feed(
+        to,
+        errors,
         RunState { session, progress },
         detailed,
         b"\n",
@@ -174,20 +200,30 @@ fn end_line(
 }
 
 // Answers what is left at the end of the input: such a line first, then a configuration that no event followed.
-fn finish(state: RunState, detailed: bool, line: &mut [u8], room: &mut [u8], out: &mut [u8]) {
-    let st = end_line(state, detailed, line, room, out);
+fn finish<W: Write, E: Write>(
+    to: &mut W,
+    errors: &mut E,
+    state: RunState,
+    detailed: bool,
+    line: &mut [u8],
+    room: &mut [u8],
+    out: &mut [u8],
+) {
+    let st = end_line(to, errors, state, detailed, line, room, out);
     let session = st.session;
     let progress = st.progress;
     let mut output = progress.output;
     output.at = session.finish(out, output.at);
-    flush(out, output);
+    flush(to, errors, out, output);
 }
 
-// Answers each line of fd's input, to its end or until the output can't be written. Nothing says that the input ends, so the loop
-// counts down from a number that no run uses up. Contracts can't describe I/O, so this one says only that the buffers keep their
-// lengths.
-pub fn run(
-    fd: i32,
+// Answers each line of the input on `to`, to its end or until the output can't be written. What fails is said on `errors`. Nothing
+// says that the input ends, so the loop counts down from a number that no run uses up. No contract can say what a descriptor gives or
+// takes, so this one says only that the buffers keep their lengths.
+pub fn run<R: Read, W: Write, E: Write>(
+    input: &mut R,
+    to: &mut W,
+    errors: &mut E,
     detailed: bool,
     part: &mut [u8],
     line: &mut [u8],
@@ -200,10 +236,10 @@ pub fn run(
     let mut st = start();
     let mut turns = u64::MAX;
     while turns > 0 && st.progress.going && st.progress.output.taken {
-        st = turn(fd, st, detailed, part, line, room, out);
+        st = turn(input, to, errors, st, detailed, part, line, room, out);
         turns -= 1;
     }
     if st.progress.output.taken {
-        finish(st, detailed, line, room, out);
+        finish(to, errors, st, detailed, line, room, out);
     }
 }
