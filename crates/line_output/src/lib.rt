@@ -67,3 +67,60 @@ pub fn make_room<W: Write, E: Write>(
     }
     output
 }
+
+#[cfg(test)]
+mod tests {
+    use super::*;
+    use std::io;
+    use std::test::Fail;
+
+    // A writer that takes nothing.
+    #[derive(Drop)]
+    struct Full {}
+
+    impl Write for Full {
+        fn write(&mut self, _buf: &[u8]) -> io::Result<usize> {
+            Ok(0)
+        }
+
+        fn flush(&mut self) -> io::Result<()> {
+            Ok(())
+        }
+    }
+
+    #[test]
+    fn what_waits_is_written(rt: HostRuntime) -> Result<(), Fail> {
+        let mut to = Vec::new(rt.alloc());
+        let mut errors = Vec::new(rt.alloc());
+        let waiting = Output { at: 3, taken: true };
+        let output = flush(&mut to, &mut errors, b"abcd", waiting);
+        assert!(rt; output.taken);
+        assert_eq!(rt; to.as_slice(), b"abc".as_slice());
+        assert_eq!(rt; errors.len(), 0);
+        Ok(())
+    }
+
+    #[test]
+    fn room_is_made_only_where_it_lacks(rt: HostRuntime) -> Result<(), Fail> {
+        let mut to = Vec::new(rt.alloc());
+        let mut errors = Vec::new(rt.alloc());
+        let waiting = Output { at: 3, taken: true };
+        let enough = make_room(&mut to, &mut errors, b"abcd", waiting, 1);
+        assert_eq!(rt; enough.at, 3);
+        assert_eq!(rt; to.len(), 0);
+        let lacking = make_room(&mut to, &mut errors, b"abcd", waiting, 2);
+        assert_eq!(rt; lacking.at, 0);
+        assert_eq!(rt; to.as_slice(), b"abc".as_slice());
+        Ok(())
+    }
+
+    #[test]
+    fn output_that_is_not_taken_is_reported(rt: HostRuntime) -> Result<(), Fail> {
+        let mut errors = Vec::new(rt.alloc());
+        let waiting = Output { at: 3, taken: true };
+        let output = flush(&mut Full {}, &mut errors, b"abcd", waiting);
+        assert!(rt; !output.taken);
+        assert_eq!(rt; errors.as_slice(), b"the output was not taken\n".as_slice());
+        Ok(())
+    }
+}
