@@ -243,3 +243,67 @@ pub fn run<R: Read, W: Write, E: Write>(
         finish(to, errors, st, detailed, line, room, out);
     }
 }
+
+#[cfg(test)]
+mod tests {
+    use super::*;
+    use std::io;
+    use std::test::Fail;
+
+    // A reader that can't be read.
+    #[derive(Drop)]
+    struct Unread {}
+
+    impl Read for Unread {
+        fn read(&mut self, _buf: &mut [u8]) -> io::Result<usize> {
+            Err(io::Error::from(io::ErrorKind::Other))
+        }
+    }
+
+    // A writer that takes nothing.
+    #[derive(Drop)]
+    struct Full {}
+
+    impl Write for Full {
+        fn write(&mut self, _buf: &[u8]) -> io::Result<usize> {
+            Ok(0)
+        }
+
+        fn flush(&mut self) -> io::Result<()> {
+            Ok(())
+        }
+    }
+
+    // Runs a trace with small buffers.
+    fn run_small<R: Read, W: Write, E: Write>(input: &mut R, to: &mut W, errors: &mut E) {
+        let mut part = [0u8; 3];
+        let mut line = [0u8; 64];
+        let mut room = [0u8; 64];
+        let mut out = [0u8; 9000];
+        run(
+            input, to, errors, false, &mut part, &mut line, &mut room, &mut out,
+        );
+    }
+
+    #[test]
+    fn an_input_that_fails_has_ended(rt: HostRuntime) -> Result<(), Fail> {
+        let mut to = Vec::new(rt.alloc());
+        let mut errors = Vec::new(rt.alloc());
+        run_small(&mut Unread {}, &mut to, &mut errors);
+        assert_eq!(rt; errors.as_slice(), b"the input can't be read\n".as_slice());
+        let mut same = Vec::new(rt.alloc());
+        errors.clear();
+        run_small(&mut b"".as_slice(), &mut same, &mut errors);
+        assert_eq!(rt; to.as_slice(), same.as_slice());
+        assert_eq!(rt; errors.len(), 0);
+        Ok(())
+    }
+
+    #[test]
+    fn output_that_is_not_taken_is_reported(rt: HostRuntime) -> Result<(), Fail> {
+        let mut errors = Vec::new(rt.alloc());
+        run_small(&mut b"G\n".as_slice(), &mut Full {}, &mut errors);
+        assert_eq!(rt; errors.as_slice(), b"the output was not taken\n".as_slice());
+        Ok(())
+    }
+}
