@@ -57,10 +57,10 @@ module _ (z g f t : List ℕ) (a r : ℕ) (room : length z ≡ most_offered) (sh
   length_whole : length f ≡ most_offered
   length_whole = length_appends g f a t r q ∙ length_appends z g 0 (audio ++ rtp_avp) a p ∙ room
 
--- a name's array has so many octets; h says how one is kept, and any h will do
-module _ (k : Place) {X : Type 0} (h : ℕ → X) (array : length (map h k.name) ≡ most_name) where
+-- a name's array has so many octets
+module _ (k : Place) (array : length k.name ≡ most_name) where
   short_name : length (name_of (codec_by k)) ≤ most_name
-  short_name = omega (arith, name_short k.format k.name, length-map k.name h)
+  short_name = omega (arith, name_short k.format k.name)
 
   pub offer_is : (port payload ptime a r : ℕ) (g f : List ℕ) (s : Places) → s ≡ bare_places (record { at = 0; len = 5 }) port (record { at = 5; len = 7 }) payload
       → Appends (replicate most_offered 0) 0 (audio ++ rtp_avp) a g → Appends g a (name_of (codec_by k)) r f
