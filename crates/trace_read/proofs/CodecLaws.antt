@@ -106,10 +106,7 @@ inside_snoc (j ∷ ks) k h f =
     let (a, b) = (and-eq-true_iff (format_inside j.format) (all_formats_inside ks)).0 h in
     rw (a, inside_snoc ks k b f)
 
-module _ (c : Config) {X : Type 0} (g : Place → X) (w : length (map g c.codecs) ≡ 8) where
-  entries : length c.codecs ≡ 8
-  entries = sym (length-map c.codecs g) ∙ w
-
+module _ (c : Config) (entries : length c.codecs ≡ 8) where
   pub added_full : (b : Bool) (r : Configured) (k : Codec) → 8 ≤ c.count → Fails r → Configures b (added_to (configuration_by c) k) r
   unfolding added_to configuration_by
   added_full b r k h f = failed b _ r f (λ q. rw (le-ltb (length (codecs_by c)) 8 (omega (arith, length_codecs c, entries))) q)

@@ -1,0 +1,8 @@
+-- `events::give` meets its contract. The part that is lent is the front of the buffer.
+-- Assumes nothing.
+use borrow.Author.Rules.{rules}
+use Rattle.trace.proofs.EventLaws.{gave_front}
+use Rattle.trace.proofs.events.give.Goals as goal
+
+pub returns : goal.returns
+returns c = search (gave_front, rules)

@@ -1,0 +1,8 @@
+-- `events::handle` meets its contract. What the endpoint did is what the definition prints.
+-- Assumes nothing.
+use borrow.Author.Rules.{rules}
+use Rattle.trace.proofs.EventLaws.{handled_is}
+use Rattle.trace.proofs.events.handle.Goals as goal
+
+pub returns : goal.returns
+returns c = search (handled_is, rules)
