@@ -1,7 +1,7 @@
 -- Document 01, "Elements", the list of identifiers (YD/T 1193.4 after Q.765.5, 4.6.1.2 to 4.6.1.17): what the contents of
 -- an element are decoded as. Simple elements come in the order of their numbers, then the two constructors. Where
 -- Q.765.5 leaves a code spare or a length open, document 01's ranges decide: outside them the element is unrecognised.
-use Rattle.std.specs.Prelude.{ℕ, suc, ◌+◌, ◌*◌, ◌%◌, List, [], ◌∷◌, Bool, true, false, ◌&&◌, cond, length, take, drop, leb, ltb, eqb}
+use Rattle.std.specs.Prelude.{ℕ, suc, ◌+◌, ◌*◌, ◌%◌, List, [], ◌∷◌, Bool, true, ◌&&◌, cond, length, take, drop, leb, ltb, eqb}
 use Rattle.std.proofs.Math.Option.{Option, none, some, map, Option-elim}
 use Rattle.codes.specs.Codes.{is_action, is_indicator, is_signal}
 use Rattle.bat.specs.declared.Place.{Place}

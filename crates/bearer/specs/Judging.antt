@@ -1,6 +1,6 @@
 -- Document 01, "One endpoint": which commands, Requests and Accepteds are right, the bearer that they put in force, and what is
 -- written. A Request of ours is given by its media line and attributes: a stream. `force` is the bearer in force, if there is one.
-use Rattle.std.specs.Prelude.{ℕ, List, [], ◌∷◌, Bool, true, false, ◌&&◌, cond, eqb, ltb}
+use Rattle.std.specs.Prelude.{ℕ, List, [], Bool, true, false, ◌&&◌, cond, eqb, ltb}
 use Rattle.std.proofs.Math.Option.{Option, none, some, Option-elim}
 use Rattle.octets.specs.Text.{ascii}
 use Rattle.octets.specs.Words.{same}

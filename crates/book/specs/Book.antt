@@ -8,7 +8,6 @@ use Rattle.book.specs.declared.Side.TheVariants.{I, R}
 use Rattle.book.specs.declared.State.{State}
 use Rattle.book.specs.declared.State.TheVariants.{Idle, AwaitSetup, Up, AwaitChange}
 use Rattle.book.specs.declared.Notice.{Notice}
-use Rattle.book.specs.declared.Notice
 
 -- The book holds the side, a settled bearer and an open Request. Its four cases are the four states: up and awaiting change have
 -- a settled bearer, both awaiting states an open Request. While idle it holds nothing, no side either. Whoever awaits a set-up

@@ -13,7 +13,6 @@ use Rattle.book.specs.declared.State.TheVariants.{Idle, AwaitSetup, Up, AwaitCha
 use Rattle.book.specs.declared.Side.{Side}
 use Rattle.book.specs.declared.Side.TheVariants.{I, R}
 use Rattle.book.specs.declared.Notice.{Notice}
-use Rattle.book.specs.declared.Notice
 use Rattle.book.specs.Book.{discarded, opened, agreed, failed, released, request_confused, request_right, request_wrong}
 use Rattle.book.specs.Book.{closed, opening, settling, state_of, settled, ignores, by_bearer, drops}
 use Rattle.book.specs.States.{closed_state, opened_state, settled_side, by_state, holds_at, drops_at, ignores_at}

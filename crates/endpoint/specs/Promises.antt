@@ -4,7 +4,6 @@ use Rattle.std.proofs.Math.Option.{Option, none, some}
 use Rattle.book.specs.declared.State.{State}
 use Rattle.book.specs.declared.State.TheVariants.{Up}
 use Rattle.book.specs.declared.Notice.{Notice}
-use Rattle.book.specs.declared.Notice
 use Rattle.book.specs.Book.{settled, closed, settling, state_of, by_bearer, drops}
 use Rattle.ipbcp.specs.Reading.{read_message}
 use Rattle.ipbcp.specs.Writing.{Content, accepted_content, confused_content, rejected_content, message_text}

@@ -1,7 +1,7 @@
 -- What is written is read back: a message is cut into the lines that it was put together from, and each of them is read as
 -- what it was written for.
 -- Assumes nothing.
-use Prim.Native.Nat.{ℕ, ◌+◌, ◌≤◌}
+use Prim.Native.Nat.{ℕ, ◌≤◌}
 use mathlib.Core.Path.{◌≡◌, refl, sym, ap, ◌∙◌}
 use mathlib.Core.List.{List, [], ◌∷◌, ◌++◌, map, append_assoc, append-nil, map-append}
 use mathlib.Core.Bool.{true, false, ◌&&◌, and-eq-true_iff}

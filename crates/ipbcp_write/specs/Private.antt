@@ -1,6 +1,6 @@
 -- Private: used only by private functions of this crate, on the way from a body, whose texts are places in a source,
 -- to the octets of its message.
-use Rattle.std.specs.Prelude.{ℕ, List, [], ◌∷◌, ◌++◌, Bool, true, ◌&&◌}
+use Rattle.std.specs.Prelude.{ℕ, List, ◌++◌, Bool, true, ◌&&◌}
 use Rattle.octets.specs.Text.{ascii}
 use Rattle.address.specs.declared.Address.{Address}
 use Rattle.media.specs.declared.Stream as code

@@ -5,10 +5,10 @@ use Prim.Native.Nat.{ℕ, ◌+◌, ◌-◌, ◌%◌, ◌≤◌}
 use mir.Syntax.{w8}
 use mir.Val.{Fits}
 use mathlib.Core.Path.{◌≡◌, refl, sym, ◌∙◌}
-use mathlib.Core.List.{List, ◌++◌, map}
+use mathlib.Core.List.{List, ◌++◌}
 use mathlib.Core.Bool.{Bool, true, false, ◌&&◌, cond, and-eq-true_iff}
 use mathlib.Core.Option.{none, some, Option-elim}
-use lib.ListN.{length, replicate, length-map, length-take, length-replicate}
+use lib.ListN.{length, replicate, length-take, length-replicate}
 use lib.Seq.{take_at}
 use lib.Dec.{eqb, leb}
 use native.Mathlib.Omega.{arith}

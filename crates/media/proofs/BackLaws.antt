@@ -1,7 +1,7 @@
 -- The text of a media line and of each attribute, as it is written, is read as what it says: a token ends at the blank after it,
 -- since it has none itself, and a number is read back from its digits.
 -- Assumes nothing.
-use Prim.Native.Nat.{ℕ, ◌+◌, ◌≤◌, ◌<◌}
+use Prim.Native.Nat.{ℕ, ◌≤◌, ◌<◌}
 use mathlib.Core.Path.{◌≡◌, refl, ◌∙◌, ap}
 use mathlib.Core.List.{List, [], ◌∷◌, ◌++◌}
 use mathlib.Core.Bool.{false}

@@ -1,7 +1,7 @@
 -- Whatever lines come, an endpoint that a trace runs has a valid configuration: each line of the configuration is checked when it
 -- comes, and the first event is given to an endpoint only if there is a codec.
 -- Assumes nothing.
-use Prim.Native.Nat.{ℕ, ◌+◌}
+use Prim.Native.Nat.{ℕ}
 use mathlib.Core.Path.{◌≡◌, refl, subst}
 use mathlib.Core.List.{List, [], ◌∷◌, ◌++◌}
 use mathlib.Core.Bool.{Bool, true, false, ◌&&◌, cond}

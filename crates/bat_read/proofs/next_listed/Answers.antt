@@ -1,4 +1,3 @@
-use Prim.Native.Nat.{◌-◌}
 use Rattle.bat_read.proofs.OutcomeLaws.{seen_fits, seen_falls}
 use Rattle.bat_read.proofs.ListedLaws.{list_finds, list_next, list_more}
 use borrow.Author.Rules.{rules}

@@ -1,5 +1,4 @@
 use native.Mathlib.Omega.{arith}
-use Prim.Native.Nat.{◌-◌}
 use Rattle.bat.specs.JudgingMeaning.{data_number}
 use Rattle.bat_read.proofs.OutcomeLaws.{outcomes, seen_fits, seen_falls}
 use borrow.Author.Rules.{rules}

@@ -1,6 +1,6 @@
 -- There are no more entries to store than the table has room for, and when all are stored the table is what document 01 says.
-use Prim.Native.Nat.{ℕ, ◌<◌, ◌≤◌}
-use mathlib.Core.Path.{◌≡◌, ap, sym, ◌∙◌}
+use Prim.Native.Nat.{◌<◌}
+use mathlib.Core.Path.{◌≡◌, ap, ◌∙◌}
 use lib.ListN.{length}
 use native.Mathlib.Omega.{arith}
 use Rattle.bat.specs.Framing.{cut}
@@ -8,7 +8,7 @@ use Rattle.bat.specs.FramingMeaning.{count_of}
 use Rattle.bat_table.specs.declared.Plan.{Plan}
 use Rattle.bat_table.specs.Private.{stored_by}
 use Rattle.bat_table.proofs.Room.{place_fits}
-use Rattle.bat_table.proofs.FillLaws.{spot, fill, length_fill, stored_fits, filled}
+use Rattle.bat_table.proofs.FillLaws.{stored_fits, filled}
 use Rattle.bat_table.proofs.store_elements.Goals as goal
 
 pub bounds-table-i : goal.bounds-table-i

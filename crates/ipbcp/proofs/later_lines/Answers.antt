@@ -1,6 +1,5 @@
 use borrow.Author.Rules.{rules}
 use Rattle.sdp.proofs.CutLaws.{loop_falls}
-use Prim.Native.Nat.{◌-◌}
 use Rattle.ipbcp.proofs.WholeLaws.{laters}
 use Rattle.ipbcp.proofs.later_lines.Goals as goal
 

@@ -1,7 +1,6 @@
 use borrow.Author.Rules.{rules}
 use Rattle.ipbcp.proofs.WholeLaws.{preamble_start, preambles}
 use Rattle.sdp.proofs.CutLaws.{loop_falls}
-use Prim.Native.Nat.{◌-◌}
 use Rattle.ipbcp.proofs.read_short.Goals as goal
 
 pub loop-i-init : goal.loop-i-init

@@ -1,4 +1,3 @@
-use Prim.Native.Nat.{◌-◌}
 use borrow.Author.Rules.{rules}
 use Rattle.notation.proofs.OctetsLaws.{octets_turn, octets_turn_f, readings}
 use Rattle.notation.proofs.read_octets.Goals as goal

@@ -1,6 +1,5 @@
 use borrow.Author.Rules.{rules}
 use Rattle.sdp.proofs.EndLaws.{ending}
-use Prim.Native.Nat.{◌-◌}
 use Rattle.sdp.proofs.find_end.Goals as goal
 
 pub loop-n-preserved : goal.loop-n-preserved

@@ -1,4 +1,3 @@
-use Prim.Native.Nat.{◌-◌}
 use borrow.Author.Rules.{rules}
 use Rattle.sdp.proofs.CutLaws.{walk}
 use Rattle.sdp.proofs.in_lines.Goals as goal

@@ -1,6 +1,5 @@
 use borrow.Author.Rules.{rules}
 use Rattle.sdp.proofs.EndLaws.{fours}
-use Prim.Native.Nat.{◌-◌}
 use Rattle.sdp.proofs.pass_fours.Goals as goal
 
 pub loop-n-init : goal.loop-n-init

@@ -1,4 +1,3 @@
-use Prim.Native.Nat.{◌-◌}
 use borrow.Author.Rules.{rules}
 use Rattle.address.specs.Private.{digits_at}
 use Rattle.address.proofs.Ipv4Laws.{digits_read}

@@ -1,4 +1,3 @@
-use Prim.Native.Nat.{◌-◌}
 use borrow.Author.Rules.{rules}
 use Rattle.address.proofs.GapLaws.{gap_found_rules}
 use Rattle.address.proofs.ipv6.find_gap.Goals as goal

@@ -1,4 +1,3 @@
-use Prim.Native.Nat.{◌-◌}
 use borrow.Author.Rules.{rules}
 use Rattle.octets.proofs.Pick.{picks}
 use Rattle.address.specs.Ipv6.{is_group}

@@ -1,4 +1,3 @@
-use Prim.Native.Nat.{◌-◌}
 use borrow.Author.Rules.{rules}
 use Rattle.address.proofs.SideLaws.{side_read}
 use Rattle.address.proofs.ipv6.read_side.Goals as goal

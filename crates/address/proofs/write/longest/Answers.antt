@@ -1,4 +1,3 @@
-use Prim.Native.Nat.{◌-◌}
 use borrow.Author.Rules.{rules}
 use Rattle.address.specs.Canonical.{longest_run}
 use Rattle.address.proofs.RunLaws.{longest_found}

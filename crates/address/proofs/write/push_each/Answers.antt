@@ -1,4 +1,3 @@
-use Prim.Native.Nat.{◌-◌}
 use borrow.Author.Rules.{rules}
 use Rattle.address.proofs.WriteLaws.{each_pushed}
 use Rattle.address.proofs.write.push_each.Goals as goal

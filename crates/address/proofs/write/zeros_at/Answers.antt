@@ -1,6 +1,4 @@
-use Prim.Native.Nat.{◌-◌}
 use borrow.Author.Rules.{rules}
-use Rattle.address.specs.Canonical.{zeros}
 use Rattle.address.proofs.RunLaws.{zeros_counted}
 use Rattle.address.proofs.write.zeros_at.Goals as goal
 

@@ -1,5 +1,4 @@
-use Prim.Native.Nat.{◌-◌}
-use Rattle.bat.proofs.CountLaws.{counts, counted, counted_zero, places}
+use Rattle.bat.proofs.CountLaws.{counts, counted_zero, places}
 use borrow.Author.Rules.{rules}
 use Rattle.bat.proofs.framing.count_elements.Goals as goal
 

@@ -1,4 +1,3 @@
-use Prim.Native.Nat.{◌-◌}
 use Rattle.bat.proofs.FrameLaws.{marks}
 use borrow.Author.Rules.{rules}
 use Rattle.bat.proofs.framing.count_unmarked.Goals as goal

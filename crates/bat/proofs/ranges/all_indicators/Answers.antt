@@ -1,4 +1,3 @@
-use Prim.Native.Nat.{◌-◌}
 use Rattle.bat.proofs.RangeLaws.{indicating}
 use borrow.Author.Rules.{rules}
 use Rattle.bat.proofs.ranges.all_indicators.Goals as goal

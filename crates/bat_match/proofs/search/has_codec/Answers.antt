@@ -1,4 +1,3 @@
-use Prim.Native.Nat.{◌-◌}
 use borrow.Author.Rules.{rules}
 use Rattle.bat_match.proofs.SearchLaws.{searching}
 use Rattle.bat_match.proofs.search.has_codec.Goals as goal

@@ -1,4 +1,3 @@
-use Prim.Native.Nat.{◌-◌}
 use borrow.Author.Rules.{rules}
 use Rattle.bat_match.proofs.SelectionLaws.{place_in, first_split, first_selection, next_split, selection_more}
 use Rattle.bat_match.proofs.selection.select_codecs.Goals as goal

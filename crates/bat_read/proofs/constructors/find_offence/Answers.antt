@@ -1,4 +1,3 @@
-use Prim.Native.Nat.{◌-◌}
 use Rattle.bat.proofs.CountLaws.{places}
 use Rattle.bat_read.proofs.ConstructorLaws.{offence_start, offences}
 use borrow.Author.Rules.{rules}

@@ -1,4 +1,3 @@
-use Prim.Native.Nat.{◌-◌}
 use borrow.Author.Rules.{rules}
 use Rattle.bat.proofs.CountLaws.{place_inside, place_falls}
 use Rattle.bat_write.proofs.CodecLaws.{listing, contents_small, codecs_more}

@@ -1,4 +1,3 @@
-use Prim.Native.Nat.{◌-◌}
 use Rattle.bat.proofs.CountLaws.{place_inside, place_more, place_falls}
 use Rattle.bat_write.proofs.CodecLaws.{contents_small}
 use Rattle.bat_write.proofs.SelectedLaws.{push_start, left, push_more, push_done}

@@ -1,5 +1,3 @@
-use Prim.Native.Nat.{◌-◌}
-use lib.ListN.{length}
 use Rattle.bat.proofs.CountLaws.{place_inside, place_more, place_falls}
 use Rattle.bat_write.proofs.CodecLaws.{contents_small}
 use Rattle.bat_write.proofs.SelectedLaws.{left, length_inside, length_fits, length_more, length_done}

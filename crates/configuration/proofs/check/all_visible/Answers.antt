@@ -1,4 +1,3 @@
-use Prim.Native.Nat.{◌-◌}
 use borrow.Author.Rules.{rules}
 use Rattle.configuration.proofs.CheckLaws.{visibles}
 use Rattle.configuration.proofs.check.all_visible.Goals as goal

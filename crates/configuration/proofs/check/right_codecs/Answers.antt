@@ -1,4 +1,3 @@
-use Prim.Native.Nat.{◌-◌}
 use borrow.Author.Rules.{rules}
 use Rattle.configuration.proofs.CheckLaws.{codecs_right}
 use Rattle.configuration.proofs.check.right_codecs.Goals as goal

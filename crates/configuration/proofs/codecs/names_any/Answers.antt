@@ -1,4 +1,3 @@
-use Prim.Native.Nat.{◌-◌}
 use borrow.Author.Rules.{rules}
 use Rattle.configuration.proofs.EntryLaws.{naming}
 use Rattle.configuration.proofs.codecs.names_any.Goals as goal

@@ -1,7 +1,6 @@
 use borrow.Author.Rules.{rules}
 use Rattle.ipbcp.proofs.TypeLaws.{heads}
 use Rattle.sdp.proofs.CutLaws.{loop_falls}
-use Prim.Native.Nat.{◌-◌}
 use Rattle.ipbcp.proofs.types.read_head.Goals as goal
 
 pub enum_told-1 : goal.enum_told-1

@@ -1,5 +1,4 @@
-use Prim.Native.Nat.{◌-◌}
-use lib.ListN.{length, length-set}
+use lib.ListN.{length-set}
 use borrow.Author.Rules.{rules}
 use Rattle.octets.proofs.AppendLaws.{copying}
 use Rattle.octets.proofs.append.copy.Goals as goal

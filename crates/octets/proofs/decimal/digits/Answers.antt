@@ -1,4 +1,3 @@
-use Prim.Native.Nat.{◌-◌}
 use borrow.Author.Rules.{rules}
 use Rattle.octets.proofs.DecimalLaws.{numbers}
 use Rattle.octets.proofs.decimal.digits.Goals as goal

@@ -1,7 +1,6 @@
 -- `hex::digit` meets its contract. The three ranges of the code are those of the definition.
 -- Assumes nothing.
 use native.Mathlib.Omega.{arith}
-use borrow.Author.Tests.{leb-false}
 use borrow.Author.Rules.{rules}
 use Rattle.octets.proofs.HexLaws.{digits, digit_none}
 use Rattle.octets.proofs.hex.digit.Goals as goal

@@ -1,4 +1,3 @@
-use Prim.Native.Nat.{◌-◌}
 use borrow.Author.Rules.{rules}
 use Rattle.octets.proofs.HexLaws.{hexing}
 use Rattle.octets.proofs.hex.push_hex.Goals as goal

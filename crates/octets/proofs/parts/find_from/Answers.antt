@@ -1,4 +1,3 @@
-use Prim.Native.Nat.{◌-◌}
 use borrow.Author.Rules.{rules}
 use Rattle.octets.proofs.SplitLaws.{finding}
 use Rattle.octets.proofs.parts.find_from.Goals as goal

@@ -1,6 +1,5 @@
 use borrow.Author.Rules.{rules}
 use Rattle.octets.proofs.SplitLaws.{fours}
-use Prim.Native.Nat.{◌-◌}
 use Rattle.octets.proofs.parts.pass_fours.Goals as goal
 
 pub returns-then-s-n : goal.returns-then-s-n

@@ -1,4 +1,3 @@
-use Prim.Native.Nat.{◌-◌}
 use borrow.Author.Rules.{rules}
 use Rattle.octets.proofs.WordLaws.{digits}
 use Rattle.octets.proofs.words.all_digits.Goals as goal

@@ -4,7 +4,6 @@ use Prim.Native.Nat.{◌-◌}
 use mathlib.Core.Path.{◌≡◌}
 use lib.ListN.{length, drop}
 use Rattle.octets.specs.Decimal.{all_digits}
-use Rattle.octets.proofs.WordLaws.{digits}
 use Rattle.octets.proofs.words.all_digits.Given as goal
 
 abbrev pub invariant-loop-i : goal.invariant-loop-i

@@ -1,4 +1,3 @@
-use Prim.Native.Nat.{◌-◌}
 use borrow.Author.Rules.{rules}
 use Rattle.octets.proofs.WordLaws.{beginning}
 use Rattle.octets.proofs.words.starts.Goals as goal
