@@ -46,7 +46,8 @@ def functions_in(path):
         owner = "" if module == "lib" else module + "::"
         if found.group(1):
             owner = re.findall(r"(?m)^impl (\w+)", text[:found.start()])[-1] + "::"
-        rest = re.sub(r"(?s)⌜.*?⌝", "⌜⌝", text[found.end():])
+        # a clause may have a name, as in `ensures emptied { .. }`
+        rest = re.sub(r"\b(requires|ensures) \w+ \{", r"\1 {", text[found.end():])
         yield owner + found.group(2), re.split(r"(?<!ensures )(?<!requires )\{", rest)[0]
 
 

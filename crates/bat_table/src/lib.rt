@@ -1,5 +1,5 @@
-// The caller's table: one entry for each element, from the front. Functions over a table are proved by hand, by a walk of
-// their code, so they are few and short. Everything that looks at the data is in `bat::framing` and in `steps`.
+// The caller's table: one entry for each element, from the front. Everything that looks at the data is in `bat::framing` and in
+// `steps`.
 #![tactic(auto)]
 
 mod steps;
