@@ -1,5 +1,5 @@
 #!/usr/bin/env bash
-# message.sh: how many instructions it takes to read a message, as a table: the card's reader (card_message, a static
+# message.sh: how many instructions it takes to read a message, as a table: the card's reader (card_message_c, a static
 # library); libosip2 and Sofia-SIP, if they are installed, and how many times the card's instructions they take; and two
 # passes over the octets that only look for line ends. callgrind counts two runs of different length, and their
 # difference gives the cost of one message. Not part of the gate. Needs rt, valgrind and a C compiler; the parsers need

@@ -1,14 +1,11 @@
 #!/usr/bin/env bash
 # staticlib.sh NAME: proves what NAME exports to C, and writes target/staticlib/libNAME.a for C programs to link. The
-# exports are in the static library NAME_c if there is one, which calls the library NAME, and otherwise in NAME. Prints
-# nothing unless the check fails; then it ends with status 1. Needs rt.
+# exports are in the static library NAME_c, which calls the library NAME. Prints nothing unless the check fails; then it
+# ends with status 1. Needs rt.
 set -eu
 root=$(cd "$(dirname "$0")/.." && pwd)
 name=${1:?"which one? bat_table, bat_match, card_message or card_packet"}
-crate=$name
-if [ -d "$root/crates/${name}_c" ]; then
-    crate=${name}_c
-fi
+crate=${name}_c
 log=$(cd "$root/crates/$crate" && rt lib 2>&1) || {
     printf '%s\n' "$log" >&2
     exit 1

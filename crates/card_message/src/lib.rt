@@ -1,4 +1,4 @@
-// Reading a message, for C to call: what the benchmark measures.
+// Reading a message as C calls it, by the crate `card_message_c`: what the benchmark measures.
 #![tactic(auto)]
 
 ghost use Rattle.std.specs.Prelude.{◌≡◌};
@@ -8,8 +8,7 @@ ghost use Rattle.card_message.specs.ForC.{reading_for_c};
 use ipbcp::Message;
 
 // The number that refuses m, or 256 for a version and type alone, or 1000 plus the port.
-#[unsafe(no_mangle)]
-pub extern "C" fn card_message_read(m: &[u8]) -> u32
+pub fn card_message_read(m: &[u8]) -> u32
     ensures { result ≡ reading_for_c (read_message m.now) }
 {
     let x = ipbcp::read(m);

@@ -1,5 +1,5 @@
-// Reads a message and writes it again in a tunnel packet, for C to call: in a test, other programs read the
-// packets.
+// Reads a message and writes it again in a tunnel packet, as C calls it, by the crate `card_packet_c`: in a test, other programs
+// read the packets.
 #![tactic(auto)]
 
 ghost use Rattle.std.specs.Prelude.{◌≡◌};
@@ -36,8 +36,7 @@ fn code(r: Put) -> usize
 // Puts a packet at the front of out whose message says what m says, with m's address as the own address. The
 // answer is its length, or 0 if m is a version and type alone, or REFUSED plus the number that refuses m or the
 // packet; then out stays as it was.
-#[unsafe(no_mangle)]
-pub extern "C" fn card_packet_rewrite(m: &[u8], out: &mut [u8]) -> usize
+pub fn card_packet_rewrite(m: &[u8], out: &mut [u8]) -> usize
     ensures { Rewrites (read_message m.now) out.old result out.new }
 {
     let x = ipbcp::read(m);

@@ -22,7 +22,7 @@ pub enum Format {
     Named(usize),
 }
 
-// A codec entry. An enum can't hold an array, so the name is beside the format.
+// A codec entry: its format, and the array that has its name.
 #[derive(Clone, Copy)]
 pub struct Codec {
     pub format: Format,

@@ -4,6 +4,7 @@
 
 ghost use Rattle.std.specs.Prelude.{◌≤◌, IfSome, length};
 
+use octets::spans::up_to;
 use octets::words::equals;
 use std::env::FillError;
 use std::fs;
@@ -14,9 +15,6 @@ use trace_run::MOST_DETAIL;
 
 // How many octets are read at once, and how many may wait to be written.
 const BUFFER: usize = 65536;
-
-// The most octets of an argument: no path is longer.
-const MOST_WORD: usize = 4096;
 
 #[derive(Clone, Copy)]
 struct Manner {
@@ -60,39 +58,44 @@ fn open<F: Files>(files: &F, name: &[u8]) -> Option<F::File> {
     fs::open(files, text).ok()
 }
 
-// The trace in the file of that name. Whether standard output takes the lines around a trace is not asked: the trace's own lines
-// show it.
+// Prints the name of a file, and opens the file. Whether standard output takes these lines is not asked: the trace's own lines show
+// it. Not inlined, so that what opening needs of the stack is free again when the trace runs.
+#[inline(never)]
+fn begin_file<F: Files, W: Write>(files: &F, to: &mut W, name: &[u8]) -> Option<F::File> {
+    let _ = to.write_all(b"== ");
+    let _ = to.write_all(name);
+    let _ = to.write_all(b"\n");
+    let file = open(files, name);
+    if file.is_none() {
+        let _ = to.write_all(b"no file\n");
+    }
+    file
+}
+
+// The trace in the file whose name is in the first n octets of `line`.
 fn run_file<F: Files, W: Write, E: Write>(
     files: &F,
     to: &mut W,
     errors: &mut E,
-    name: &[u8],
+    n: usize,
     manner: Manner,
     part: &mut [u8],
     line: &mut [u8],
     room: &mut [u8],
     out: &mut [u8],
 ) {
-    let _ = to.write_all(b"== ");
-    let _ = to.write_all(name);
-    let _ = to.write_all(b"\n");
-    match open(files, name) {
-        Some(file) => {
-            let mut input = file;
-            run_trace(&mut input, to, errors, manner, part, line, room, out);
-        }
-        None => {
-            let _ = to.write_all(b"no file\n");
-        }
+    if let Some(file) = begin_file(files, to, up_to(line, n)) {
+        let mut input = file;
+        run_trace(&mut input, to, errors, manner, part, line, room, out);
     }
 }
 
-// A word that says how files are printed or read, or the name of a file.
+// The word in the first n octets of `line`: it says how files are printed or read, or it is the name of a file.
 fn run_word<F: Files, W: Write, E: Write>(
     files: &F,
     to: &mut W,
     errors: &mut E,
-    word: &[u8],
+    n: usize,
     manner: Manner,
     part: &mut [u8],
     line: &mut [u8],
@@ -100,6 +103,7 @@ fn run_word<F: Files, W: Write, E: Write>(
     out: &mut [u8],
 ) -> Manner {
     let mut m = manner;
+    let word = up_to(line, n);
     if equals(b"plain", word) {
         m.detailed = false;
         return m;
@@ -112,7 +116,7 @@ fn run_word<F: Files, W: Write, E: Write>(
         m.slow = true;
         return m;
     }
-    run_file(files, to, errors, word, m, part, line, room, out);
+    run_file(files, to, errors, n, m, part, line, room, out);
     m
 }
 
@@ -128,7 +132,7 @@ fn read_word<V: Env>(env: &V, i: usize, word: &mut [u8]) -> Option<usize>
     }
 }
 
-// The arguments in turn.
+// The arguments in turn. Each is read into `line`, which is free until the trace that it names runs.
 fn run_all<H: Files + Env, W: Write, E: Write>(
     rt: &H,
     to: &mut W,
@@ -143,17 +147,16 @@ fn run_all<H: Files + Env, W: Write, E: Write>(
         slow: false,
     };
     for i in 1..usize::MAX {
-        let mut word = [0u8; MOST_WORD];
-        match read_word(rt, i, &mut word) {
+        match read_word(rt, i, line) {
             Some(n) => {
-                manner = run_word(rt, to, errors, &word[..n], manner, part, line, room, out);
+                manner = run_word(rt, to, errors, n, manner, part, line, room, out);
             }
             None => break,
         }
     }
 }
 
-// The buffers are those of `tracedetail`.
+// The buffers are those of `tracedetail`. `line` has room for the longest argument too: no path is longer.
 fn main(rt: HostRuntime) {
     let mut part = [0u8; BUFFER];
     let mut line = [0u8; MOST_DETAIL];
