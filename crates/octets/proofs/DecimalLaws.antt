@@ -8,8 +8,8 @@ use lib.ListN.{length, get_or, drop, drop_of_length-le}
 use native.Mathlib.Nat.{le_trans, le_refl}
 use native.Mathlib.Omega.{arith}
 use borrow.Author.Tests.{le-leb, lt-leb, eq-eqb, ne_eqb}
-use Rattle.octets.specs.declared.Number.{Number}
-use Rattle.octets.specs.declared.Number.TheVariants.{Value, Bad}
+use Rattle.std.specs.declared.option.Option.{Option}
+use Rattle.std.specs.declared.option.Option.TheVariants.{Some, None}
 use Rattle.octets.specs.Decimal.{is_digit, all_digits, value_from, shortest, number_from, read_number, on_number}
 use Rattle.octets.proofs.Laws.{next}
 
@@ -17,11 +17,11 @@ from_digit : (n b : ℕ) (bs : List ℕ) → 48 ≤ b → b ≤ 57 → number_fr
 unfolding number_from all_digits value_from is_digit
 from_digit n b bs p q = simp (le-leb 48 b p, le-leb b 57 q)
 
-from_low : (n b : ℕ) (bs : List ℕ) → b < 48 → number_from n (b ∷ bs) ≡ Bad
+from_low : (n b : ℕ) (bs : List ℕ) → b < 48 → number_from n (b ∷ bs) ≡ None
 unfolding number_from all_digits is_digit
 from_low n b bs p = simp (lt-leb 48 b p)
 
-from_high : (n b : ℕ) (bs : List ℕ) → 57 < b → number_from n (b ∷ bs) ≡ Bad
+from_high : (n b : ℕ) (bs : List ℕ) → 57 < b → number_from n (b ∷ bs) ≡ None
 unfolding number_from all_digits is_digit
 from_high n b bs p = simp (le-leb 48 b (omega arith), lt-leb b 57 p)
 
@@ -31,49 +31,49 @@ unfolding value_from
 value_grows n [] = le_refl n
 value_grows n (b ∷ bs) = le_trans (omega arith) (value_grows (n * 10 + (b - 48)) bs)
 
-from_large : (n : ℕ) (s : List ℕ) → 65535 < n → number_from n s ≡ Bad
+from_large : (n : ℕ) (s : List ℕ) → 65535 < n → number_from n s ≡ None
 unfolding number_from
 from_large n s p = simp (lt-leb (value_from n s) 65535 (omega (arith, value_grows n s)), and-false)
 
 -- The same at a position: what was read so far is n, and `number_from n` of the rest is the answer x.
-module _ (s : List ℕ) (i n : ℕ) (x : Number) (inv : number_from n (drop i s) ≡ x) where
-  pub number_low : i < length s → get_or s i 0 < 48 → Bad ≡ x
+module _ (s : List ℕ) (i n : ℕ) (x : Option ℕ) (inv : number_from n (drop i s) ≡ x) where
+  pub number_low : i < length s → get_or s i 0 < 48 → None ≡ x
   number_low h p = sym (from_low n (get_or s i 0) (drop (i + 1) s) p) ∙ ap (number_from n) (sym (next s i h)) ∙ inv
 
-  pub number_high : i < length s → 57 < get_or s i 0 → Bad ≡ x
+  pub number_high : i < length s → 57 < get_or s i 0 → None ≡ x
   number_high h p = sym (from_high n (get_or s i 0) (drop (i + 1) s) p) ∙ ap (number_from n) (sym (next s i h)) ∙ inv
 
   pub number_digit : i < length s → 48 ≤ get_or s i 0 → get_or s i 0 ≤ 57 → number_from (n * 10 + (get_or s i 0 - 48)) (drop (i + 1) s) ≡ x
   number_digit h p q = sym (from_digit n (get_or s i 0) (drop (i + 1) s) p q) ∙ ap (number_from n) (sym (next s i h)) ∙ inv
 
-  pub number_large : i < length s → 48 ≤ get_or s i 0 → get_or s i 0 ≤ 57 → 65535 < n * 10 + (get_or s i 0 - 48) → Bad ≡ x
+  pub number_large : i < length s → 48 ≤ get_or s i 0 → get_or s i 0 ≤ 57 → 65535 < n * 10 + (get_or s i 0 - 48) → None ≡ x
   number_large h p q r = sym (from_large (n * 10 + (get_or s i 0 - 48)) (drop (i + 1) s) r) ∙ number_digit h p q
 
-  pub number_end : length s ≤ i → n ≤ 65535 → Value n ≡ x
+  pub number_end : length s ≤ i → n ≤ 65535 → Some n ≡ x
   unfolding number_from all_digits value_from
   number_end h p = rw (drop_of_length-le s h, le-leb n 65535 p) at inv
 
 pub ruleset numbers = (number_low, number_high, number_digit, number_large, number_end)
 
 -- The whole text; x is the number of its digits, leading zeros or not.
-pub read_none : (s : List ℕ) → length s ≡ 0 → Bad ≡ read_number s
+pub read_none : (s : List ℕ) → length s ≡ 0 → None ≡ read_number s
 unfolding read_number shortest
 read_none [] h = refl
 read_none (b ∷ bs) h = absurd (omega arith)
 
-pub read_one : (s : List ℕ) (x : Number) → x ≡ number_from 0 s → (length s ≡ 0 → ⊥) → length s < 2 → x ≡ read_number s
+pub read_one : (s : List ℕ) (x : Option ℕ) → x ≡ number_from 0 s → (length s ≡ 0 → ⊥) → length s < 2 → x ≡ read_number s
 unfolding read_number shortest
 read_one [] x e z h = absurd (z refl)
 read_one (b ∷ []) x e z h = e
 read_one (b ∷ d ∷ bs) x e z h = absurd (omega arith)
 
-pub read_zero : (s : List ℕ) → 2 ≤ length s → get_or s 0 0 ≡ 48 → Bad ≡ read_number s
+pub read_zero : (s : List ℕ) → 2 ≤ length s → get_or s 0 0 ≡ 48 → None ≡ read_number s
 unfolding read_number shortest
 read_zero [] h z = absurd (omega arith)
 read_zero (b ∷ []) h z = absurd (omega arith)
 read_zero (b ∷ d ∷ bs) h z = simp (eq-eqb b 48 z)
 
-pub read_more : (s : List ℕ) (x : Number) → x ≡ number_from 0 s → 2 ≤ length s → (get_or s 0 0 ≡ 48 → ⊥) → x ≡ read_number s
+pub read_more : (s : List ℕ) (x : Option ℕ) → x ≡ number_from 0 s → 2 ≤ length s → (get_or s 0 0 ≡ 48 → ⊥) → x ≡ read_number s
 unfolding read_number shortest
 read_more [] x e h z = absurd (omega arith)
 read_more (b ∷ []) x e h z = absurd (omega arith)
@@ -81,12 +81,12 @@ read_more (b ∷ d ∷ bs) x e h z = simp (ne_eqb b 48 z) e
 
 pub ruleset reading = (read_none, read_one, read_zero, read_more)
 
--- By cases on a `Number` z that the code has as y.
-pub on_value : {X : Type 0} (y z : Number) (n : ℕ) (go : ℕ → X) (bad x : X) → y ≡ z → y ≡ Value n → x ≡ go n → x ≡ on_number z go bad
+-- By cases on a number z that may be missing and that the code has as y.
+pub on_value : {X : Type 0} (y z : Option ℕ) (n : ℕ) (go : ℕ → X) (bad x : X) → y ≡ z → y ≡ Some n → x ≡ go n → x ≡ on_number z go bad
 unfolding on_number
 on_value y z n go bad x p q r = rw (← p, q) r
 
-pub on_bad : {X : Type 0} (y z : Number) (go : ℕ → X) (bad x : X) → y ≡ z → y ≡ Bad → x ≡ bad → x ≡ on_number z go bad
+pub on_bad : {X : Type 0} (y z : Option ℕ) (go : ℕ → X) (bad x : X) → y ≡ z → y ≡ None → x ≡ bad → x ≡ on_number z go bad
 unfolding on_number
 on_bad y z go bad x p q r = rw (← p, q) r
 

@@ -4,6 +4,8 @@ use Prim.Native.Nat.{ℕ, ◌+◌, ◌-◌, ◌/◌, ◌%◌, ◌≤◌, ◌<◌
 use mathlib.Core.Path.{◌≡◌, refl, ap}
 use mathlib.Core.List.{List, [], ◌∷◌, ◌++◌}
 use mathlib.Core.Bool.{Bool, true, false, cond}
+use Rattle.std.specs.declared.option.Option.{Option}
+use Rattle.std.specs.declared.option.Option.TheVariants.{Some, None}
 use lib.ListN.{length, get_or, take}
 use lib.Seq.{take_all, take-suc}
 use lib.Dec.{ltb, leb}
@@ -30,20 +32,20 @@ value_low b =
 
 -- ---- a digit's value, by the range it is in
 module _ (b : ℕ) where
-  pub digit_decimal : 48 ≤ b → b ≤ 57 → b - 48 ≡ digit_in b
+  pub digit_decimal : 48 ≤ b → b ≤ 57 → Some (b - 48) ≡ digit_in b
   unfolding digit_in is_hex_digit hex_value
   digit_decimal h k = rw (le-ltb b 48 h, le-leb b 57 k)
 
-  pub digit_upper : 65 ≤ b → b ≤ 70 → b - 65 + 10 ≡ digit_in b
+  pub digit_upper : 65 ≤ b → b ≤ 70 → Some (b - 65 + 10) ≡ digit_in b
   unfolding digit_in is_hex_digit hex_value
   digit_upper h k = rw (le-ltb b 48 (omega arith), lt-leb b 57 (omega arith), le-ltb b 65 h, le-leb b 70 k)
 
-  pub digit_lower : 97 ≤ b → b ≤ 102 → b - 97 + 10 ≡ digit_in b
+  pub digit_lower : 97 ≤ b → b ≤ 102 → Some (b - 97 + 10) ≡ digit_in b
   unfolding digit_in is_hex_digit hex_value
   digit_lower h k =
       rw (le-ltb b 48 (omega arith), lt-leb b 57 (omega arith), le-ltb b 65 (omega arith), lt-leb b 70 (omega arith), le-ltb b 97 h, le-leb 97 b h, le-leb b 102 k)
 
-  pub digit_none : (48 ≤ b → 57 < b) → (65 ≤ b → 70 < b) → (97 ≤ b → 102 < b) → 16 ≡ digit_in b
+  pub digit_none : (48 ≤ b → 57 < b) → (65 ≤ b → 70 < b) → (97 ≤ b → 102 < b) → None ≡ digit_in b
   unfolding digit_in is_hex_digit
   digit_none f g h =
       by_lt b 48 _ (λ p. rw (lt-ltb b 48 p)) λ p.
@@ -53,21 +55,23 @@ module _ (b : ℕ) where
 
 pub ruleset digits = (digit_decimal, digit_upper, digit_lower, digit_none)
 
--- a is what `digit` says of b
-module _ (b a : ℕ) (e : a ≡ digit_in b) where
-  pub none_digit : 15 < a → is_hex_digit b ≡ false
-  unfolding digit_in
-  none_digit h =
-      by_bool (is_hex_digit b) _
-      (λ p. let z : a ≡ hex_value b = rw p at e in absurd (omega (arith, value_low b)))
-      (λ p. p)
+-- what `digit` says of b
+pub none_digit : (b : ℕ) → None ≡ digit_in b → is_hex_digit b ≡ false
+unfolding digit_in
+none_digit b e =
+    by_bool (is_hex_digit b) _
+    (λ p. let z : ◌≡◌ {A = Option ℕ} None (Some (hex_value b)) = rw p at e in absurd (let y : ◌≡◌ {A = ℕ} 0 1 = cc in omega arith))
+    (λ p. p)
 
-  pub some_digit : a ≤ 15 → (is_hex_digit b ≡ true) × (a ≡ hex_value b)
-  unfolding digit_in
-  some_digit h =
-      by_bool (is_hex_digit b) _
-      (λ p. (p, rw p at e))
-      (λ p. let z : a ≡ 16 = rw p at e in absurd (omega arith))
+pub some_digit : (b a : ℕ) → Some a ≡ digit_in b → (is_hex_digit b ≡ true) × (a ≡ hex_value b) × (a < 16)
+unfolding digit_in
+some_digit b a e =
+    by_bool (is_hex_digit b) _
+    (λ p.
+    let z : ◌≡◌ {A = Option ℕ} (Some a) (Some (hex_value b)) = rw p at e in
+    let y : a ≡ hex_value b = cc in
+    (p, y, omega (arith, value_low b)))
+    (λ p. let z : ◌≡◌ {A = Option ℕ} (Some a) None = rw p at e in absurd (let y : ◌≡◌ {A = ℕ} 0 1 = cc in omega arith))
 
 pub length_octets : (s : List ℕ) (w : ℕ) → w ≡ length s / 2 → length (hex_octets s) ≡ w
 unfolding hex_octets

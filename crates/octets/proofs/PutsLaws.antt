@@ -9,23 +9,26 @@ use lib.Seq.{take_at}
 use native.Mathlib.Nat.{zero-add}
 use native.Mathlib.Omega.{arith}
 use borrow.Author.Tests.{lt-ltb, le-ltb}
-use Rattle.octets.specs.declared.Put.TheVariants.{Octets, Refused}
+use Rattle.std.specs.declared.result.Result.{Result}
+use Rattle.std.specs.declared.result.Result.TheVariants.{Ok, Err}
+use Rattle.octets.specs.declared.Refusal.{Refusal}
+use Rattle.octets.specs.declared.Refusal.TheVariants.{BufferTooShort, OutOfRange}
 use Rattle.octets.specs.Puts.{put_answer, put_leaves, Puts}
 use Rattle.octets.specs.Append.{put, next_of, appended, Appends}
 use Rattle.octets.proofs.AppendLaws.{append_room, length_appends}
 use Rattle.octets.proofs.CaseLaws.{by_lt}
 
 -- nothing to write
-pub puts_none : (l : List ℕ) → Puts none l (Refused 5) l
+pub puts_none : (l : List ℕ) → Puts none l (Err OutOfRange) l
 unfolding put_answer put_leaves
 puts_none l = record { answers = refl; leaves = refl }
 
 module _ (t l : List ℕ) where
-  pub puts_short : length l < length t → Puts (some t) l (Refused 4) l
+  pub puts_short : length l < length t → Puts (some t) l (Err BufferTooShort) l
   unfolding put_answer put_leaves
   puts_short h = let z = lt-ltb (length l) (length t) h in record { answers = rw z; leaves = rw z }
 
-  pub puts_all : (r : ℕ) (f : List ℕ) → Appends l 0 t r f → length t ≤ length l → Puts (some t) l (Octets (length t)) f
+  pub puts_all : (r : ℕ) (f : List ℕ) → Appends l 0 t r f → length t ≤ length l → Puts (some t) l (Ok (length t)) f
   unfolding put_answer put_leaves put
   puts_all r f p h =
       let z = le-ltb (length l) (length t) h in
@@ -35,16 +38,16 @@ module _ (t l : List ℕ) where
 pub ruleset fronts = (puts_short, puts_all)
 
 -- ---- what an answer of n octets says
-pub puts_no : (l : List ℕ) (n : ℕ) (f : List ℕ) → Puts none l (Octets n) f → ⊥
+pub puts_no : (l : List ℕ) (n : ℕ) (f : List ℕ) → Puts none l (Ok n) f → ⊥
 unfolding put_answer
-puts_no l n f p = let q : Octets n ≡ Refused 5 = p.answers in let z : ◌≡◌ {A = ℕ} 0 1 = cc in omega arith
+puts_no l n f p = let q : Ok n ≡ Err OutOfRange = p.answers in let z : ◌≡◌ {A = ℕ} 0 1 = cc in omega arith
 
-pub puts_some : (t l : List ℕ) (n : ℕ) (f : List ℕ) → Puts (some t) l (Octets n) f → (n ≡ length t) × (f ≡ t ++ drop (length t) l)
+pub puts_some : (t l : List ℕ) (n : ℕ) (f : List ℕ) → Puts (some t) l (Ok n) f → (n ≡ length t) × (f ≡ t ++ drop (length t) l)
 unfolding put_answer put_leaves
 puts_some t l n f p =
     by_lt (length l) (length t) _
-    (λ h. let a = p.answers in let q : Octets n ≡ Refused 4 = rw (lt-ltb (length l) (length t) h) at a in absurd (let z : ◌≡◌ {A = ℕ} 0 1 = cc in omega arith))
-    (λ h. let a = p.answers in let q : Octets n ≡ Octets (length t) = rw (le-ltb (length l) (length t) h) at a in
+    (λ h. let a = p.answers in let q : Ok n ≡ Err BufferTooShort = rw (lt-ltb (length l) (length t) h) at a in absurd (let z : ◌≡◌ {A = ℕ} 0 1 = cc in omega arith))
+    (λ h. let a = p.answers in let q : Ok n ≡ Ok (length t) = rw (le-ltb (length l) (length t) h) at a in
     let b = p.leaves in
     (cc, rw (le-ltb (length l) (length t) h) at b))
 

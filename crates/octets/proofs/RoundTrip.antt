@@ -8,7 +8,7 @@ use lib.ListN.{length, get_or}
 use native.Mathlib.Nat.{pow-suc}
 use native.Mathlib.Omega.{arith}
 use borrow.Author.Tests.{lt-ltb, le-ltb, le-leb, lt-leb, ne_eqb}
-use Rattle.octets.specs.declared.Number.TheVariants.{Value}
+use Rattle.std.specs.declared.option.Option.TheVariants.{Some}
 use Rattle.octets.specs.Append.{width_from, number_text}
 use Rattle.octets.specs.Decimal.{is_digit, all_digits, value_from, shortest, number_from, read_number, last_digits}
 use Rattle.octets.specs.Hex.{hex_value, hex_octets, hex_digit, hex_text}
@@ -68,12 +68,12 @@ unfolding number_text
 number_value n h = value_last (width_from 19 n) n (width_holds 19 n (omega arith))
 
 -- k digits that stand for n, the first not '0' unless it is alone, are read as n
-last_back : (k n : ℕ) → n < 10 ^ k → n ≤ 65535 → shortest (last_digits k n) ≡ true → read_number (last_digits k n) ≡ Value n
+last_back : (k n : ℕ) → n < 10 ^ k → n ≤ 65535 → shortest (last_digits k n) ≡ true → read_number (last_digits k n) ≡ Some n
 unfolding read_number number_from
 last_back k n h m s = simp (s, all_last k n, value_last k n h, le-leb n 65535 m)
 
 -- a number as decimal text is read as that number
-pub number_back : (n : ℕ) → n ≤ 65535 → read_number (number_text n) ≡ Value n
+pub number_back : (n : ℕ) → n ≤ 65535 → read_number (number_text n) ≡ Some n
 unfolding number_text shortest last_digits
 number_back n m =
     by_lt n 10 _ (λ h. rw (width_one 19 n h) (last_back 1 n (omega arith) m refl)) λ g.

@@ -1,8 +1,6 @@
 -- Decimal numbers without leading zeros, at most 65535, as text.
-use Rattle.std.specs.Prelude.{ℕ, zero, suc, ◌+◌, ◌-◌, ◌*◌, ◌/◌, ◌%◌, List, [], ◌∷◌, ◌++◌, Bool, true, false, not, ◌&&◌, cond, leb, eqb}
+use Rattle.std.specs.Prelude.{ℕ, zero, suc, ◌+◌, ◌-◌, ◌*◌, ◌/◌, ◌%◌, List, [], ◌∷◌, ◌++◌, Bool, true, false, not, ◌&&◌, cond, leb, eqb, Option, Some, None}
 use Rattle.octets.specs.Text.{char}
-use Rattle.octets.specs.declared.Number.{Number}
-use Rattle.octets.specs.declared.Number.TheVariants.{Value, Bad}
 
 unfoldable pub is_digit : ℕ → Bool
 is_digit b = leb (char "0") b && leb b (char "9")
@@ -24,19 +22,19 @@ shortest (b ∷ []) = true
 shortest (b ∷ c ∷ bs) = not (eqb b (char "0"))
 
 -- the number that the digits of s after n's stand for, if s has only digits and the number is at most 65535
-unfoldable pub number_from : ℕ → List ℕ → Number
-number_from n s = cond (all_digits s && leb (value_from n s) 65535) (Value (value_from n s)) Bad
+unfoldable pub number_from : ℕ → List ℕ → Option ℕ
+number_from n s = cond (all_digits s && leb (value_from n s) 65535) (Some (value_from n s)) None
 
 -- the number that all of s stands for
-unfoldable pub read_number : List ℕ → Number
-read_number s = cond (shortest s) (number_from 0 s) Bad
+unfoldable pub read_number : List ℕ → Option ℕ
+read_number s = cond (shortest s) (number_from 0 s) None
 
 -- n's last k digits
 unfoldable pub last_digits : ℕ → ℕ → List ℕ
 last_digits zero n = []
 last_digits (suc k) n = last_digits k (n / 10) ++ ((char "0" + n % 10) ∷ [])
 
--- by cases on a `Number`
-unfoldable pub on_number : {X : Type 0} → Number → (ℕ → X) → X → X
-on_number (Value n) go bad = go n
-on_number Bad go bad = bad
+-- by cases on a number that may be missing
+unfoldable pub on_number : {X : Type 0} → Option ℕ → (ℕ → X) → X → X
+on_number (Some n) go bad = go n
+on_number None go bad = bad

@@ -1,5 +1,5 @@
 -- Hexadecimal text: digits of either case, two for an octet; written in upper case.
-use Rattle.std.specs.Prelude.{ℕ, ◌+◌, ◌-◌, ◌*◌, ◌/◌, ◌%◌, List, [], ◌∷◌, Bool, true, false, ◌&&◌, cond, length, leb, ltb, eqb}
+use Rattle.std.specs.Prelude.{ℕ, ◌+◌, ◌-◌, ◌*◌, ◌/◌, ◌%◌, List, [], ◌∷◌, Bool, true, false, ◌&&◌, cond, length, leb, ltb, eqb, Option, Some, None}
 use Rattle.octets.specs.Text.{char}
 
 unfoldable pub is_hex_digit : ℕ → Bool
@@ -35,9 +35,9 @@ hex_octets [] = []
 hex_octets (a ∷ []) = []
 hex_octets (a ∷ b ∷ s) = (hex_value a * 16 + hex_value b) ∷ hex_octets s
 
--- the answer of `digit`: a digit's value, or 16 for an octet that is no digit
-unfoldable pub digit_in : ℕ → ℕ
-digit_in b = cond (is_hex_digit b) (hex_value b) 16
+-- a digit's value, if the octet is a digit
+unfoldable pub digit_in : ℕ → Option ℕ
+digit_in b = cond (is_hex_digit b) (Some (hex_value b)) None
 
 -- the digit that stands for d, in upper case
 unfoldable pub hex_digit : ℕ → ℕ

@@ -5,7 +5,7 @@ ghost use Rattle.octets.specs.Append.{put, Appends, number_text};
 ghost use Rattle.octets.specs.Private.{Tail};
 ghost use Rattle.octets.specs.Puts.{Puts};
 
-use crate::Put;
+use crate::Refusal;
 
 // Puts src into out from `at` on.
 fn copy(src: &[u8], out: &mut [u8], at: usize)
@@ -80,12 +80,12 @@ pub fn push_number_then(n: u64, b: u8, out: &mut [u8], at: usize) -> usize
 }
 
 // Writes src at the front of out, if there is room for all of it.
-pub fn put_front(src: &[u8], out: &mut [u8]) -> Put
+pub fn put_front(src: &[u8], out: &mut [u8]) -> Result<usize, Refusal>
     ensures { Puts (some src.now) out.old result out.new }
 {
     if out.len() < src.len() {
-        return Put::Refused(4);
+        return Err(Refusal::BufferTooShort);
     }
     push(src, out, 0);
-    Put::Octets(src.len())
+    Ok(src.len())
 }

@@ -2,10 +2,8 @@
 ghost use Rattle.std.specs.Prelude.{◌≡◌};
 ghost use Rattle.octets.specs.Decimal.{number_from, read_number};
 
-use crate::Number;
-
 // The number that s's digits stand for; leading zeros are allowed.
-fn digits(s: &[u8]) -> Number
+fn digits(s: &[u8]) -> Option<u16>
     ensures { result ≡ number_from 0 s.now }
 {
     let mut n: u32 = 0;
@@ -13,32 +11,32 @@ fn digits(s: &[u8]) -> Number
     while i < s.len() {
         let b = s[i];
         if b < b'0' {
-            return Number::Bad;
+            return None;
         }
         if b'9' < b {
-            return Number::Bad;
+            return None;
         }
         n = n * 10 + (b - b'0') as u32;
         if 65535 < n {
-            return Number::Bad;
+            return None;
         }
         i += 1;
     }
-    Number::Value(n as u16)
+    Some(n as u16)
 }
 
 // The number that all of s stands for.
-pub fn read_number(s: &[u8]) -> Number
+pub fn read_number(s: &[u8]) -> Option<u16>
     ensures { result ≡ read_number s.now }
 {
     if s.len() == 0 {
-        return Number::Bad;
+        return None;
     }
     if s.len() < 2 {
         return digits(s);
     }
     if s[0] == b'0' {
-        return Number::Bad;
+        return None;
     }
     digits(s)
 }

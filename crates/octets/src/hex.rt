@@ -5,20 +5,20 @@ ghost use Rattle.octets.specs.Hex.{digit_in, hex_digit, hex_text};
 
 use crate::append;
 
-// The value of a digit, of either case; 16 for an octet that is none.
-pub fn digit(b: u8) -> u8
+// The value of a digit, of either case.
+pub fn digit(b: u8) -> Option<u8>
     ensures { result ≡ digit_in b }
 {
     if b'0' <= b && b <= b'9' {
-        return b - b'0';
+        return Some(b - b'0');
     }
     if b'A' <= b && b <= b'F' {
-        return b - b'A' + 10;
+        return Some(b - b'A' + 10);
     }
     if b'a' <= b && b <= b'f' {
-        return b - b'a' + 10;
+        return Some(b - b'a' + 10);
     }
-    16
+    None
 }
 
 // The digit that stands for d.
