@@ -10,13 +10,12 @@ use lib.ListN.{length, drop, length-drop, drop_of_length-le}
 use lib.Dec.{eqb, leb}
 use native.Mathlib.Omega.{arith}
 use borrow.Author.Tests.{ne_eqb}
-use Rattle.octets.specs.declared.Span.{Span}
 use Rattle.octets.specs.Split.{has, before, on_first, split_on}
 use Rattle.octets.specs.Spans.{text_of, inside}
 use Rattle.octets.proofs.CaseLaws.{by_bool}
 use Rattle.octets.proofs.SplitLaws.{has_before, has_not, split_dot, split_last}
 use Rattle.sdp.specs.declared.Line.{Line}
-use Rattle.sdp.specs.declared.Line.TheVariants.{Text, NoLine}
+use Rattle.std.specs.Prelude.{Option, Some, None}
 use Rattle.sdp.specs.Lines.{without_cr, ended_parts, last_part, lines, all_ended, is_line, all_lines, in_lines}
 use Rattle.sdp.specs.Meaning.{FirstLine, line, no_line, first_line, line_in}
 
@@ -115,25 +114,25 @@ told_some false x y q = let z : ◌≡◌ {A = ℕ} 0 1 = cc in absurd (omega ar
 told_other : (x : FirstLine) → some no_line ≡ some x → x ≡ no_line
 told_other x q = cc
 
-module _ (m : List ℕ) (i : ℕ) (y : Line) (w : line_in m y ≡ some (first_line (drop i m))) where
-  module _ (letter : ℕ) (value : Span) (n : ℕ) (q : y ≡ Text letter value n) where
+module _ (m : List ℕ) (i : ℕ) (y : Option Line) (w : line_in m y ≡ some (first_line (drop i m))) where
+  module _ (l : Line) (q : y ≡ Some l) where
     abbrev t : List ℕ
-    t = letter ∷ 61 ∷ text_of m value
+    t = l.letter ∷ 61 ∷ text_of m l.value
 
-    is_first : first_line (drop i m) ≡ line (letter ∷ 61 ∷ text_of m value) (drop n m)
+    is_first : first_line (drop i m) ≡ line (l.letter ∷ 61 ∷ text_of m l.value) (drop l.next m)
     unfolding line_in
-    is_first = sym (told_some (inside m value && leb n (length m)) _ _ (rw q at w))
+    is_first = sym (told_some (inside m l.value && leb l.next (length m)) _ _ (rw q at w))
 
-    pub loop_lines : lines (drop i m) ≡ (letter ∷ 61 ∷ text_of m value) ∷ lines (drop n m)
-    loop_lines = lines_first (drop i m) t (drop n m) is_first
+    pub loop_lines : lines (drop i m) ≡ (l.letter ∷ 61 ∷ text_of m l.value) ∷ lines (drop l.next m)
+    loop_lines = lines_first (drop i m) t (drop l.next m) is_first
 
-    pub loop_in_lines : in_lines (drop i m) ≡ in_lines (drop n m)
-    loop_in_lines = in_lines_first (drop i m) t (drop n m) is_first
+    pub loop_in_lines : in_lines (drop i m) ≡ in_lines (drop l.next m)
+    loop_in_lines = in_lines_first (drop i m) t (drop l.next m) is_first
 
-    pub loop_falls : length m - n < length m - i
-    loop_falls = omega (arith, rest_less (drop i m) t (drop n m) is_first, length-drop i m, length-drop n m)
+    pub loop_falls : length m - l.next < length m - i
+    loop_falls = omega (arith, rest_less (drop i m) t (drop l.next m) is_first, length-drop i m, length-drop l.next m)
 
-  pub loop_none : y ≡ NoLine → i < length m → in_lines (drop i m) ≡ false
+  pub loop_none : y ≡ None → i < length m → in_lines (drop i m) ≡ false
   unfolding line_in
   loop_none q h = in_lines_none (drop i m) (told_other (first_line (drop i m)) (rw q at w)) (omega (arith, length-drop i m))
 
@@ -145,11 +144,11 @@ loop_ended m i h = rw (drop_of_length-le m h) in_lines_nil
 
 -- `in_lines`, at i: x is its answer
 module _ (m : List ℕ) (i : ℕ) (x : Bool) (inv : in_lines (drop i m) ≡ x) where
-  module _ (y : Line) (w : line_in m y ≡ some (first_line (drop i m))) where
-    pub in_more : (letter : ℕ) (value : Span) (n : ℕ) → y ≡ Text letter value n → in_lines (drop n m) ≡ x
-    in_more letter value n q = sym (loop_in_lines m i y w letter value n q) ∙ inv
+  module _ (y : Option Line) (w : line_in m y ≡ some (first_line (drop i m))) where
+    pub in_more : (l : Line) → y ≡ Some l → in_lines (drop l.next m) ≡ x
+    in_more l q = sym (loop_in_lines m i y w l q) ∙ inv
 
-    pub in_none : y ≡ NoLine → i < length m → false ≡ x
+    pub in_none : y ≡ None → i < length m → false ≡ x
     in_none q h = sym (loop_none m i y w q h) ∙ inv
 
   pub in_end : length m ≤ i → true ≡ x

@@ -20,7 +20,7 @@ use Rattle.octets.proofs.CaseLaws.{by_bool}
 use Rattle.sdp.specs.Lines.{is_plain, all_plain, is_line}
 use Rattle.sdp.specs.Meaning.{line, no_line, first_line, line_in}
 use Rattle.sdp.specs.Private.{plain_part, PlainTo, Ends, is_start}
-use Rattle.sdp.specs.declared.Line.TheVariants.{Text, NoLine}
+use Rattle.std.specs.Prelude.{Some, None}
 use Rattle.sdp.proofs.PlainLaws.{is_plain_lem, line_start, start_front, first_lf, first_crlf, first_open, first_last, first_short, first_start, first_wrong}
 
 -- ---- `plain_part`
@@ -136,11 +136,11 @@ module _ (m : List ℕ) (i e : ℕ) (f : Ends m i e) where
       let k : drop (length p) (drop i m) ≡ drop e m = drop-drop (length p) i m ∙ rw (← f.is) in
       sym (take-append-drop (length p) (drop i m)) ∙ rw (part_take (drop i m), k)
 
-  none_is : first_line (drop i m) ≡ no_line → line_in m NoLine ≡ some (first_line (drop i m))
+  none_is : first_line (drop i m) ≡ no_line → line_in m None ≡ some (first_line (drop i m))
   unfolding line_in
   none_is k = rw k
 
-  pub cut_open : length m ≤ e → line_in m NoLine ≡ some (first_line (drop i m))
+  pub cut_open : length m ≤ e → line_in m None ≡ some (first_line (drop i m))
   cut_open h =
       let k : drop i m ≡ p = whole ∙ rw (drop_of_length-le m h, append-nil p) in
       none_is (rw k (first_open p plain))
@@ -154,10 +154,10 @@ module _ (m : List ℕ) (i e : ℕ) (f : Ends m i e) where
         let k = part_stops (drop i m) (omega (arith, f.is, length-drop i m)) in
         rw (get_or-drop i m (length p) 0, ← f.is) at k
 
-    no_line_lem : first_line (p ++ (get_or m e 0 ∷ drop (e + 1) m)) ≡ no_line → line_in m NoLine ≡ some (first_line (drop i m))
+    no_line_lem : first_line (p ++ (get_or m e 0 ∷ drop (e + 1) m)) ≡ no_line → line_in m None ≡ some (first_line (drop i m))
     no_line_lem k = none_is (ap first_line at_end ∙ k)
 
-    pub cut_short : e - i < 2 → line_in m NoLine ≡ some (first_line (drop i m))
+    pub cut_short : e - i < 2 → line_in m None ≡ some (first_line (drop i m))
     cut_short l = no_line_lem (first_short p plain (get_or m e 0) stops (drop (e + 1) m) (omega (arith, long)))
 
     module _ (l : 2 ≤ e - i) (t : Bool) (q : t ≡ is_start (get_or m i 0) (get_or m (i + 1) 0)) where
@@ -170,7 +170,7 @@ module _ (m : List ℕ) (i e : ℕ) (f : Ends m i e) where
       start : is_start (get_or p 0 0) (get_or p 1 0) ≡ t
       start = rw (octet 0 (omega arith), octet 1 (omega arith), add-zero i) (sym q)
 
-      pub cut_other : t ≡ false → line_in m NoLine ≡ some (first_line (drop i m))
+      pub cut_other : t ≡ false → line_in m None ≡ some (first_line (drop i m))
       cut_other b = no_line_lem (first_start p plain (get_or m e 0) stops (drop (e + 1) m) (omega (arith, long)) (start ∙ b))
 
       module _ (b : t ≡ true) where
@@ -190,28 +190,28 @@ module _ (m : List ℕ) (i e : ℕ) (f : Ends m i e) where
             ∙ rw (octet 0 (omega arith), add-zero i, value)
 
         text_is : (n : ℕ) → n ≤ length m → first_line (drop i m) ≡ line p (drop n m)
-            → line_in m (Text (get_or m i 0) (record { at = i + 2; len = e - i - 2 }) n) ≡ some (first_line (drop i m))
+            → line_in m (Some (record { letter = get_or m i 0; value = record { at = i + 2; len = e - i - 2 }; next = n })) ≡ some (first_line (drop i m))
         unfolding line_in
         text_is n g k = rw (le-leb (i + 2 + (e - i - 2)) (length m) (omega (arith, f.low)), le-leb n (length m) g, ← text, k)
 
-        pub cut_lf : get_or m e 0 ≡ 10 → line_in m (Text (get_or m i 0) (record { at = i + 2; len = e - i - 2 }) (e + 1)) ≡ some (first_line (drop i m))
+        pub cut_lf : get_or m e 0 ≡ 10 → line_in m (Some (record { letter = get_or m i 0; value = record { at = i + 2; len = e - i - 2 }; next = e + 1 })) ≡ some (first_line (drop i m))
         cut_lf d = text_is (e + 1) (omega arith) (ap first_line at_end ∙ rw d (first_lf p (drop (e + 1) m) is_line_lem))
 
         module _ (c : get_or m e 0 ≡ 10 → ⊥) where
-          pub cut_wrong : (get_or m e 0 ≡ 13 → ⊥) → line_in m NoLine ≡ some (first_line (drop i m))
+          pub cut_wrong : (get_or m e 0 ≡ 13 → ⊥) → line_in m None ≡ some (first_line (drop i m))
           cut_wrong d = no_line_lem (first_wrong p plain (get_or m e 0) stops (drop (e + 1) m) c (λ g _. d g))
 
-          pub cut_last : length m ≤ e + 1 → line_in m NoLine ≡ some (first_line (drop i m))
+          pub cut_last : length m ≤ e + 1 → line_in m None ≡ some (first_line (drop i m))
           cut_last g = no_line_lem (rw (drop_of_length-le m {i = e + 1} g) (first_last p (get_or m e 0) plain c))
 
           module _ (g : e + 1 < length m) where
             pub cut_crlf : get_or m e 0 ≡ 13 → get_or m (e + 1) 0 ≡ 10
-                → line_in m (Text (get_or m i 0) (record { at = i + 2; len = e - i - 2 }) (e + 1 + 1)) ≡ some (first_line (drop i m))
+                → line_in m (Some (record { letter = get_or m i 0; value = record { at = i + 2; len = e - i - 2 }; next = e + 1 + 1 })) ≡ some (first_line (drop i m))
             cut_crlf d k =
                 text_is (e + 1 + 1) (omega arith)
                 (ap first_line at_end ∙ rw (next m (e + 1) g, d, k) (first_crlf p (drop (e + 1 + 1) m) is_line_lem))
 
-            pub cut_cr : (get_or m (e + 1) 0 ≡ 10 → ⊥) → line_in m NoLine ≡ some (first_line (drop i m))
+            pub cut_cr : (get_or m (e + 1) 0 ≡ 10 → ⊥) → line_in m None ≡ some (first_line (drop i m))
             cut_cr k =
                 let n = get_or m (e + 1) 0 in
                 let z : before 10 (drop (e + 1) m) ≡ n ∷ before 10 (drop (e + 1 + 1) m) =

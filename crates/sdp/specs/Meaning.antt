@@ -1,7 +1,8 @@
 -- What the code's `Line` stands for, in terms of `Lines`: the first line of a text, and the text after it. `CutLaws` ties
 -- them: the lines of a text are its first line and the lines of the text after it (`lines_first`, `in_lines_first`), and a text
 -- with no first line is not made of lines unless it is empty (`in_lines_none`).
-use Rattle.std.specs.Prelude.{ℕ, ◌+◌, List, ◌∷◌, ◌&&◌, cond, length, drop, leb}
+use Rattle.std.specs.Prelude.{ℕ, ◌+◌, List, ◌∷◌, ◌&&◌, cond, length, drop, leb, Some, None}
+use Rattle.std.specs.Prelude as code
 use Rattle.std.proofs.Math.Option.{Option, some}
 use Rattle.octets.specs.Chain.{when}
 use Rattle.octets.specs.Split.{has, before}
@@ -9,7 +10,6 @@ use Rattle.octets.specs.Spans.{text_of, inside}
 use Rattle.octets.specs.Text.{char, lf}
 use Rattle.sdp.specs.Lines.{without_cr, is_line}
 use Rattle.sdp.specs.declared.Line.{Line}
-use Rattle.sdp.specs.declared.Line.TheVariants.{Text, NoLine}
 
 pub data FirstLine : Type 0 where
   -- the line without its end, and the text after that end
@@ -24,9 +24,9 @@ first_line s =
     (line (without_cr (before lf s)) (drop (length (before lf s) + 1) s))
     no_line
 
--- What a `Line` stands for in m: its letter, `=` and its value, and the text from `next` on. Value and `next` lie inside m.
-unfoldable pub line_in : List ℕ → Line → Option FirstLine
-line_in m (Text letter value next) =
-    when (inside m value && leb next (length m))
-    (some (line (letter ∷ char "=" ∷ text_of m value) (drop next m)))
-line_in m NoLine = some no_line
+-- What an answer stands for in m: the line's letter, `=` and its value, and the text from `next` on. Value and `next` lie inside m.
+unfoldable pub line_in : List ℕ → code.Option Line → Option FirstLine
+line_in m (Some l) =
+    when (inside m l.value && leb l.next (length m))
+    (some (line (l.letter ∷ char "=" ∷ text_of m l.value) (drop l.next m)))
+line_in m None = some no_line

@@ -10,16 +10,12 @@ ghost use Rattle.sdp.specs.Private.{PlainTo, Ends, is_start};
 use octets::Span;
 use octets::parts::last_three;
 
+// A line: its letter, its value (what comes after the `=`), and where the next line starts.
 #[derive(Clone, Copy)]
-pub enum Line {
-    // A line: its letter, its value (what comes after the `=`), and where the next line starts.
-    Text {
-        letter: u8,
-        value: Span,
-        next: usize,
-    },
-    // No line starts there.
-    NoLine,
+pub struct Line {
+    pub letter: u8,
+    pub value: Span,
+    pub next: usize,
 }
 
 // b may be part of a line: it is not 0, CR or LF.
@@ -95,17 +91,17 @@ fn is_start(a: u8, e: u8) -> bool
     e == b'='
 }
 
-// The line that starts at i.
-pub fn next_line(m: &[u8], i: usize) -> Line
+// The line that starts at i, or none if no line does.
+pub fn next_line(m: &[u8], i: usize) -> Option<Line>
     ensures { line_in m.now result ≡ some (first_line (drop i m.now)) }
 {
     let e = find_end(m, i);
     if m.len() <= e {
-        return Line::NoLine;
+        return None;
     }
     let len = e - i;
     if len < 2 {
-        return Line::NoLine;
+        return None;
     }
     let letter = m[i];
     if is_start(letter, m[i + 1]) {
@@ -115,28 +111,28 @@ pub fn next_line(m: &[u8], i: usize) -> Line
         };
         let b = m[e];
         if b == b'\n' {
-            return Line::Text {
+            return Some(Line {
                 letter,
                 value,
                 next: e + 1,
-            };
+            });
         }
         if b != b'\r' {
-            return Line::NoLine;
+            return None;
         }
         let lf = e + 1;
         if m.len() <= lf {
-            return Line::NoLine;
+            return None;
         }
         if m[lf] == b'\n' {
-            return Line::Text {
+            return Some(Line {
                 letter,
                 value,
                 next: lf + 1,
-            };
+            });
         }
     }
-    Line::NoLine
+    None
 }
 
 // m is made of lines.
@@ -145,15 +141,10 @@ pub fn in_lines(m: &[u8]) -> bool
 {
     let mut i = 0;
     while i < m.len() {
-        let Line::Text {
-            letter: _,
-            value: _,
-            next,
-        } = next_line(m, i)
-        else {
+        let Some(line) = next_line(m, i) else {
             return false;
         };
-        i = next;
+        i = line.next;
     }
     true
 }
