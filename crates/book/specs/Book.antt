@@ -3,6 +3,7 @@
 -- discarded, a Request judged right or wrong. The move and the reply follow from book and verdict.
 use Rattle.std.specs.Prelude.{ℕ, Bool, true, false, List, []}
 use Rattle.std.proofs.Math.Option.{Option, none, some}
+use Rattle.octets.specs.declared.Refusal.{Refusal}
 use Rattle.book.specs.declared.Side.{Side}
 use Rattle.book.specs.declared.Side.TheVariants.{I, R}
 use Rattle.book.specs.declared.State.{State}
@@ -20,8 +21,7 @@ pub data Book (Bearer Request : Type 0) : Type 0 where
 
 -- the verdict of the rules on an event
 pub data Verdict (Bearer Request : Type 0) : Type 0 where
-  -- refusal number n
-  refused : ℕ → Verdict Bearer Request
+  refused : Refusal → Verdict Bearer Request
   discarded : Verdict Bearer Request
   -- a command: the Request that it opens, and its octets
   opened : Request → List ℕ → Verdict Bearer Request
@@ -37,10 +37,10 @@ pub data Verdict (Bearer Request : Type 0) : Type 0 where
   -- a Request judged wrong, and the Rejected written
   request_wrong : List ℕ → Verdict Bearer Request
 
--- the reply to an event: a refusal's number and nothing else; or the state after it, the notice, the octets written, and whether it
+-- the reply to an event: why it is refused and nothing else; or the state after it, the notice, the octets written, and whether it
 -- cancelled our pending change (`dropped`)
 pub data Reply : Type 0 where
-  refusal : ℕ → Reply
+  refusal : Refusal → Reply
   done : State → Notice → List ℕ → Bool → Reply
 
 module _ {Bearer Request : Type 0} where
@@ -95,7 +95,7 @@ module _ {Bearer Request : Type 0} where
 
   -- how a verdict moves the book
   abbrev pub moved : Book Bearer Request → Verdict Bearer Request → Book Bearer Request
-  moved k (refused n) = k
+  moved k (refused e) = k
   moved k discarded = k
   moved k (opened q o) = opening q k
   moved k (agreed b) = settling b k
@@ -121,7 +121,7 @@ module _ {Bearer Request : Type 0} where
 
   -- the reply to an event that finds the book k and is given this verdict
   abbrev pub replied : Book Bearer Request → Verdict Bearer Request → Reply
-  replied k (refused n) = refusal n
+  replied k (refused e) = refusal e
   replied k discarded = done (state_of k) Notice.Discarded [] false
   replied k (opened q o) = done (state_of (opening q k)) Notice.None o false
   replied k (agreed b) = done Up (by_bearer k Notice.Up Notice.Changed) [] false

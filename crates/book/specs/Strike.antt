@@ -31,7 +31,7 @@ pub record Sheet (Bearer Request Event : Type 0) : Type 0 where
 
 -- the same reply, with no change of ours dropped
 abbrev pub undropped_reply : Reply → Reply
-undropped_reply (refusal n) = refusal n
+undropped_reply (refusal e) = refusal e
 undropped_reply (done s n o d) = done s n o false
 
 module _ {Bearer : Type 0} where
@@ -49,7 +49,7 @@ module _ {Bearer : Type 0} where
 
   -- the same after a reply; a refusal changes nothing
   abbrev pub in_force_by : Reply → Option Bearer → Option Bearer → Option Bearer
-  in_force_by (refusal n) was new = was
+  in_force_by (refusal e) was new = was
   in_force_by (done s n o d) was new = in_force_after n was new
 
 module _ {Bearer Event : Type 0} where
@@ -75,7 +75,7 @@ module _ {Bearer Request Event : Type 0} where
   -- lines that were left until now, and `before` those that were left when the open Request's command came.
   abbrev pub kept_after : Book Bearer Request → LogLines Bearer Event → LogLines Bearer Event → LogLine Bearer Event → Verdict Bearer Request → LogLines Bearer Event
   -- refused or discarded: nothing is struck
-  kept_after k before kept l (refused n) = kept ++ (l ∷ [])
+  kept_after k before kept l (refused e) = kept ++ (l ∷ [])
   kept_after k before kept l discarded = kept ++ (l ∷ [])
   -- a command, or a right Accepted: nothing is struck
   kept_after k before kept l (opened q o) = kept ++ (l ∷ [])
@@ -92,7 +92,7 @@ module _ {Bearer Request Event : Type 0} where
 
   -- the lines that were left when the open Request's command came, after an event with this verdict: only a command changes them
   abbrev pub before_open : LogLines Bearer Event → LogLines Bearer Event → Verdict Bearer Request → LogLines Bearer Event
-  before_open before kept (refused n) = before
+  before_open before kept (refused e) = before
   before_open before kept discarded = before
   before_open before kept (opened q o) = kept
   before_open before kept (agreed b) = before
