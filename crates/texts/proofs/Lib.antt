@@ -2,4 +2,4 @@
 -- Assumes nothing.
 pub mod InnerLaws
 pub mod TokenLaws
-pub mod LengthLaws
+pub mod CutLaws

@@ -1,4 +1,3 @@
--- The definitions that the contracts of this crate use: `Tokens` and `Lengths`; `Private` is used only by private functions.
+-- The definitions that the contracts of this crate use: `Tokens`, and `Meaning` for what the code's spans stand for.
 pub mod Tokens
-pub mod Lengths
-pub mod Private
+pub mod Meaning

@@ -1,36 +1,14 @@
 // Tokens of a text and what comes after its first blank, and parts of parts of a text as spans.
 #![tactic(auto)]
 
-ghost use Rattle.std.specs.Prelude.{◌≡◌, drop};
+ghost use Rattle.std.specs.Prelude.{◌≡◌, ◌<◌, drop};
 ghost use Rattle.octets.specs.Spans.{text_of};
 ghost use Rattle.texts.specs.Tokens.{after_blank, after_token, tokens_of};
-ghost use Rattle.texts.specs.Lengths.{two_by, three_by, four_by};
-ghost use Rattle.texts.specs.Private.{one_by};
+ghost use Rattle.texts.specs.Meaning.{cut_in};
 
 use octets::Span;
 use octets::parts::find_from;
 use octets::spans::after;
-
-// A text of two tokens: how long the first is. The second is what comes after it and its blank.
-#[derive(Clone, Copy)]
-pub enum Two {
-    Lengths(usize),
-    Other,
-}
-
-// A text of three tokens: how long the first two are.
-#[derive(Clone, Copy)]
-pub enum Three {
-    Lengths(usize, usize),
-    Other,
-}
-
-// A text of four tokens: how long the first three are.
-#[derive(Clone, Copy)]
-pub enum Four {
-    Lengths(usize, usize, usize),
-    Other,
-}
 
 // The span in m of what p stands for in the text of sp.
 pub fn inner(m: &[u8], sp: Span, p: Span) -> Span
@@ -91,64 +69,28 @@ pub fn after_token(s: &[u8]) -> &[u8]
     after(s, e + 1)
 }
 
-// s is one token.
-fn is_token(s: &[u8]) -> bool
-    ensures { one_by s.now result ≡ tokens_of 1 s.now }
+// The places of the N tokens of s, if it has so many.
+pub fn cut<const N: usize>(s: &[u8]) -> Option<[Span; N]>
+    requires { 0 < N }
+    ensures { cut_in s.now result ≡ tokens_of N s.now }
 {
-    if s.len() < 1 {
-        return false;
+    let mut spans = [Span { at: 0, len: 0 }; N];
+    let mut from = 0;
+    for i in 0..N {
+        let e = find_from(s, b' ', from);
+        if e <= from {
+            return None;
+        }
+        let is_last = i + 1 == N;
+        let ends = s.len() <= e;
+        if is_last != ends {
+            return None;
+        }
+        spans[i] = Span {
+            at: from,
+            len: e - from,
+        };
+        from = e + 1;
     }
-    let e = find_from(s, b' ', 0);
-    s.len() <= e
-}
-
-// s cut into two tokens.
-pub fn cut_two(s: &[u8]) -> Two
-    ensures { two_by s.now result ≡ tokens_of 2 s.now }
-{
-    let e = find_from(s, b' ', 0);
-    if e < 1 {
-        return Two::Other;
-    }
-    if s.len() <= e {
-        return Two::Other;
-    }
-    if is_token(after(s, e + 1)) {
-        return Two::Lengths(e);
-    }
-    Two::Other
-}
-
-// s cut into three tokens.
-pub fn cut_three(s: &[u8]) -> Three
-    ensures { three_by s.now result ≡ tokens_of 3 s.now }
-{
-    let e = find_from(s, b' ', 0);
-    if e < 1 {
-        return Three::Other;
-    }
-    if s.len() <= e {
-        return Three::Other;
-    }
-    let Two::Lengths(a) = cut_two(after(s, e + 1)) else {
-        return Three::Other;
-    };
-    Three::Lengths(e, a)
-}
-
-// s cut into four tokens.
-pub fn cut_four(s: &[u8]) -> Four
-    ensures { four_by s.now result ≡ tokens_of 4 s.now }
-{
-    let e = find_from(s, b' ', 0);
-    if e < 1 {
-        return Four::Other;
-    }
-    if s.len() <= e {
-        return Four::Other;
-    }
-    let Three::Lengths(a, b) = cut_three(after(s, e + 1)) else {
-        return Four::Other;
-    };
-    Four::Lengths(e, a, b)
+    Some(spans)
 }
