@@ -8,6 +8,7 @@ use mathlib.Core.Option.{Option, none, some, map, Option-elim}
 use lib.ListN.{length}
 use native.Mathlib.Omega.{arith}
 use borrow.Author.Tests.{lt-ltb, le-ltb}
+use Rattle.octets.specs.declared.Refusal.TheVariants.{DataTooLong, Unframed, TableTooShort}
 use Rattle.octets.proofs.CaseLaws.{by_lt}
 use Rattle.bat.specs.Framing.{Element, whole, Front, front, first, unframed, ended, elements, most_octets, refused, taken, room_for, cut}
 use Rattle.bat.proofs.WalkLaws.{front_within, front_nil, fold_ended, fold_unframed, fold_first, by_front}
@@ -64,17 +65,17 @@ pub record Taken (entries : ℕ) (s : List ℕ) (es : List Element) : Type 0 whe
   pub room : length es ≤ entries
 
 module _ (entries : ℕ) (s : List ℕ) (es : List Element) where
-  taken_by : (o : Option (List Element)) → Option-elim o (refused 2) (room_for entries) ≡ taken es → (o ≡ some es) × (length es ≤ entries)
+  taken_by : (o : Option (List Element)) → Option-elim o (refused Unframed) (room_for entries) ≡ taken es → (o ≡ some es) × (length es ≤ entries)
   unfolding room_for Option-elim
   taken_by none p = absurd (let z : ◌≡◌ {A = ℕ} 0 1 = cc in omega arith)
   taken_by (some fs) p =
       by_lt entries (length fs) _
-      (λ h. let z : refused 3 ≡ taken es = rw (lt-ltb entries (length fs) h) at p in absurd (let z : ◌≡◌ {A = ℕ} 0 1 = cc in omega arith))
+      (λ h. let z : refused TableTooShort ≡ taken es = rw (lt-ltb entries (length fs) h) at p in absurd (let z : ◌≡◌ {A = ℕ} 0 1 = cc in omega arith))
       (λ h. let z : taken fs ≡ taken es = rw (le-ltb entries (length fs) h) at p in let k : fs ≡ es = cc in rw (← k) (refl, h))
 
   pub taken_is : cut entries s ≡ taken es → Taken entries s es
   unfolding cut
   taken_is p =
       by_lt most_octets (length s) _
-      (λ h. let z : refused 1 ≡ taken es = rw (lt-ltb most_octets (length s) h) at p in absurd (let z : ◌≡◌ {A = ℕ} 0 1 = cc in omega arith))
+      (λ h. let z : refused DataTooLong ≡ taken es = rw (lt-ltb most_octets (length s) h) at p in absurd (let z : ◌≡◌ {A = ℕ} 0 1 = cc in omega arith))
       (λ h. let (are, room) = taken_by (elements s) (rw (le-ltb most_octets (length s) h) at p) in record { short = h; are = are; room = room })

@@ -13,10 +13,9 @@ use native.Mathlib.Nat.{le_refl}
 use native.Mathlib.Omega.{arith}
 use borrow.Author.Tests.{le-leb, lt-leb, lt-ltb, le-ltb, eq-eqb, ne_eqb, ltb-true, eqb-true, eqb-false}
 use Rattle.codes.specs.Codes.{is_action, is_signal}
-use Rattle.bat.specs.declared.Place.{Place}
-use Rattle.bat.specs.declared.Place.TheVariants.{Itself, Inner}
+use Rattle.std.specs.Prelude.{Some, None}
 use Rattle.bat.specs.Framing.{octet, sized, length_of, unmarked, Element, header, whole, Front, first, unframed, ended, front, on_front, walk, most_octets}
-use Rattle.bat.specs.Values.{Diagnostic, SingleCodec, InnerCodec, InnerType, InnerDuration, untimed, Value, action, backbone, address, codecs, single, report, characteristics, control, tunnelling, control_unit, signal, capability, indicators, signal_type, duration, Decoding, decoded, unrecognised, wrong, meant, bit1, right_single, single_codec, action_in, backbone_in, address_in, single_in, diagnostics_in, report_in, characteristics_in, control_in, tunnelling_in, unit_in, capability_in, right_indicators, indicators_in, right_type, type_in, sixteen_bits, duration_in, Codecs, all_codecs, offence, with_single, on_codecs, is_single, inner_codec, codec_then, codecs_in, codec_list_in, is_type, is_duration, inner_type, inner_duration, last_by, timed_by, signal_by, signal_in, decoding}
+use Rattle.bat.specs.Values.{Diagnostic, SingleCodec, InnerCodec, InnerType, InnerDuration, untimed, Value, action, backbone, address, codecs, single, report, characteristics, control, tunnelling, control_unit, signal, capability, indicators, signal_type, duration, Place, Decoding, decoded, unrecognised, wrong, meant, bit1, right_single, single_codec, action_in, backbone_in, address_in, single_in, diagnostics_in, report_in, characteristics_in, control_in, tunnelling_in, unit_in, capability_in, right_indicators, indicators_in, right_type, type_in, sixteen_bits, duration_in, Codecs, all_codecs, offence, with_single, on_codecs, is_single, inner_codec, codec_then, codecs_in, codec_list_in, is_type, is_duration, inner_type, inner_duration, last_by, timed_by, signal_by, signal_in, decoding}
 use Rattle.bat.specs.Writing.{size_text, element_text, sixteen_bits_text, codec_text, codecs_text, diagnostics_text, inner_duration_text, identifier_of, contents_text, inner_codecs_in_range, inner_duration_in_range, value_in_range, value_text, element_octets}
 use Rattle.octets.proofs.CaseLaws.{by_eq, by_lt, by_le}
 use Rattle.bat.proofs.WalkLaws.{size_small, size_low, front_within, front_size, front_length, front_nil, walk_ended, walk_unframed, walk_first, by_front}
@@ -122,7 +121,7 @@ pub codecs_kept : (s : List ℕ) (cs : List InnerCodec) → codecs_in s ≡ all_
 unfolding codecs_in
 codecs_kept s cs p = codecs_walk s 0 cs p
 
-kept_codecs : (s : List ℕ) (o : Codecs) (v : Value) → (length s ≡ 0 → ⊥) → codecs_in s ≡ o → on_codecs o (λ cs. decoded (codecs cs)) (λ d. unrecognised (Inner d)) ≡ decoded v → Kept 4 s v
+kept_codecs : (s : List ℕ) (o : Codecs) (v : Value) → (length s ≡ 0 → ⊥) → codecs_in s ≡ o → on_codecs o (λ cs. decoded (codecs cs)) (λ d. unrecognised (Some d)) ≡ decoded v → Kept 4 s v
 unfolding on_codecs identifier_of value_in_range contents_text
 kept_codecs s (all_codecs cs) v full p =
     let k = codecs_kept s cs p in
@@ -154,7 +153,7 @@ kept_unit : (s : List ℕ) (v : Value) → octet 0 s < 256 → unit_in s ≡ dec
 unfolding unit_in identifier_of value_in_range contents_text
 kept_unit [] v small = decoded_never
 kept_unit (n ∷ s) v small =
-    decoded_if (ltb n (length s)) Itself (λ h.
+    decoded_if (ltb n (length s)) None (λ h.
     let inside = ltb-true n (length s) h in
     let network = length-take-le n s (omega arith) in
     kept_as (control_unit (take n s) (drop n s)) refl
@@ -166,11 +165,11 @@ record LastingKept (t : List ℕ) (l : InnerDuration) : Type 0 where
   ranges : inner_duration_in_range l ≡ true
   shrinks : length (inner_duration_text l) ≤ length t
 
-kept_lasting : (k : InnerType) (d : ℕ) (t : List ℕ) (v : Value) (f : Front) → front t ≡ f → on_front f (last_by k d) (unrecognised (Inner d)) (decoded (signal k untimed)) ≡ decoded v
+kept_lasting : (k : InnerType) (d : ℕ) (t : List ℕ) (v : Value) (f : Front) → front t ≡ f → on_front f (last_by k d) (unrecognised (Some d)) (decoded (signal k untimed)) ≡ decoded v
     → (l : InnerDuration) × LastingKept t l × (decoded (signal k l) ≡ decoded v)
 unfolding on_front last_by is_duration inner_duration_in_range inner_duration_text
 kept_lasting k d t v (first e u) p =
-    decoded_if (is_duration e) (Inner d) (λ is. decoded_if (eqb (length u) 0) (Inner (d + length (whole e))) (λ last q.
+    decoded_if (is_duration e) (Some d) (λ is. decoded_if (eqb (length u) 0) (Some (d + length (whole e))) (λ last q.
     let (named, two) = (and-eq-true_iff (eqb e.identifier 15) (eqb (length e.contents) 2)).0 is in
     let c = meant e.compatibility in
     let l = element_text_whole t e u p 15 c (sixteen_bits_text (sixteen_bits e.contents)) (omega (arith, eqb-true)) in
@@ -178,10 +177,10 @@ kept_lasting k d t v (first e u) p =
 kept_lasting k d t v unframed p = decoded_never
 kept_lasting k d t v ended p = λ q. (untimed, record { ranges = refl; shrinks = omega arith }, q)
 
-kept_signal : (s : List ℕ) (f : Front) (v : Value) → front s ≡ f → on_front f signal_by (unrecognised (Inner 0)) wrong ≡ decoded v → Kept 11 s v
+kept_signal : (s : List ℕ) (f : Front) (v : Value) → front s ≡ f → on_front f signal_by (unrecognised (Some 0)) wrong ≡ decoded v → Kept 11 s v
 unfolding on_front signal_by timed_by is_type right_type identifier_of value_in_range contents_text
 kept_signal s (first e t) v p =
-    decoded_if (is_type e) (Inner 0) (λ is q.
+    decoded_if (is_type e) (Some 0) (λ is q.
     let (named, right) = (and-eq-true_iff (eqb e.identifier 14) (right_type e.contents)).0 is in
     let (one, known) = (and-eq-true_iff (eqb (length e.contents) 1) (is_signal (octet 0 e.contents))).0 right in
     let c = meant e.compatibility in
@@ -198,21 +197,21 @@ pub reading_kept : (i : ℕ) (s : List ℕ) (v : Value) → octet 0 s < 256 → 
 unfolding decoding action_in backbone_in address_in codec_list_in single_in characteristics_in control_in tunnelling_in signal_in capability_in indicators_in right_type type_in duration_in identifier_of value_in_range contents_text
 reading_kept i s v small =
     let all = le_refl (length s) in
-    kept_or 1 (decoded_if (eqb (length s) 1) Itself (λ one. decoded_if (is_action (octet 0 s)) Itself (λ r. kept_as (action (octet 0 s)) refl r (omega (arith, eqb-true)))))
-    (kept_or 2 (decoded_if (leb 1 (length s) && leb (length s) 4) Itself (λ r. kept_as (backbone s) refl r all))
-    (kept_or 3 (decoded_if (leb 1 (length s) && leb (length s) 20) Itself (λ r. kept_as (address s) refl r all))
-    (kept_or 4 (decoded_else (eqb (length s) 0) Itself (λ full. kept_codecs s (codecs_in s) v (eqb-false (length s) 0 full) refl))
-    (kept_or 5 (decoded_if (right_single (single_codec s)) Itself (λ r. kept_as (single (single_codec s)) refl r (length_single_codec s r)))
+    kept_or 1 (decoded_if (eqb (length s) 1) None (λ one. decoded_if (is_action (octet 0 s)) None (λ r. kept_as (action (octet 0 s)) refl r (omega (arith, eqb-true)))))
+    (kept_or 2 (decoded_if (leb 1 (length s) && leb (length s) 4) None (λ r. kept_as (backbone s) refl r all))
+    (kept_or 3 (decoded_if (leb 1 (length s) && leb (length s) 20) None (λ r. kept_as (address s) refl r all))
+    (kept_or 4 (decoded_else (eqb (length s) 0) None (λ full. kept_codecs s (codecs_in s) v (eqb-false (length s) 0 full) refl))
+    (kept_or 5 (decoded_if (right_single (single_codec s)) None (λ r. kept_as (single (single_codec s)) refl r (length_single_codec s r)))
     (kept_or 6 (kept_report s v)
-    (kept_or 7 (decoded_if (eqb (length s) 1) Itself (λ one. decoded_if (leb (octet 0 s) 4) Itself (λ r. kept_as (characteristics (octet 0 s)) refl r (omega (arith, eqb-true)))))
-    (kept_or 8 (decoded_if (leb 1 (length s)) Itself (λ r. kept_as (control s) refl r all))
-    (kept_or 9 (decoded_if (eqb (length s) 1) Itself (λ one. kept_as (tunnelling (bit1 (octet 0 s))) refl refl (omega (arith, eqb-true))))
+    (kept_or 7 (decoded_if (eqb (length s) 1) None (λ one. decoded_if (leb (octet 0 s) 4) None (λ r. kept_as (characteristics (octet 0 s)) refl r (omega (arith, eqb-true)))))
+    (kept_or 8 (decoded_if (leb 1 (length s)) None (λ r. kept_as (control s) refl r all))
+    (kept_or 9 (decoded_if (eqb (length s) 1) None (λ one. kept_as (tunnelling (bit1 (octet 0 s))) refl refl (omega (arith, eqb-true))))
     (kept_or 10 (kept_unit s v small)
     (kept_or 11 (kept_signal s (front s) v refl)
-    (kept_or 12 (decoded_if (eqb (suc (unmarked s)) (length s)) Itself (λ ends. kept_as (capability (bit1 (octet 0 s))) refl refl (omega (arith, eqb-true))))
-    (kept_or 13 (decoded_if (right_indicators s) Itself (λ r. kept_as (indicators s) refl r all))
-    (kept_or 14 (decoded_if (right_type s) Itself (λ r. let (one, known) = (and-eq-true_iff (eqb (length s) 1) (is_signal (octet 0 s))).0 r in kept_as (signal_type (octet 0 s)) refl known (omega (arith, eqb-true))))
-    (kept_or 15 (decoded_if (eqb (length s) 2) Itself (λ two. kept_as (duration (sixteen_bits s)) refl refl (omega (arith, eqb-true))))
+    (kept_or 12 (decoded_if (eqb (suc (unmarked s)) (length s)) None (λ ends. kept_as (capability (bit1 (octet 0 s))) refl refl (omega (arith, eqb-true))))
+    (kept_or 13 (decoded_if (right_indicators s) None (λ r. kept_as (indicators s) refl r all))
+    (kept_or 14 (decoded_if (right_type s) None (λ r. let (one, known) = (and-eq-true_iff (eqb (length s) 1) (is_signal (octet 0 s))).0 r in kept_as (signal_type (octet 0 s)) refl known (omega (arith, eqb-true))))
+    (kept_or 15 (decoded_if (eqb (length s) 2) None (λ two. kept_as (duration (sixteen_bits s)) refl refl (omega (arith, eqb-true))))
     decoded_never))))))))))))))
 
 -- ---- an element at the front of octets

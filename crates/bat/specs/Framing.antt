@@ -3,6 +3,8 @@
 -- most 2,048 octets, and a length is not 0, since it counts a compatibility octet.
 use Rattle.std.specs.Prelude.{ℕ, zero, suc, ◌+◌, ◌*◌, ◌%◌, List, [], ◌∷◌, ◌++◌, Bool, cond, length, get_or, take, drop, leb, ltb, eqb}
 use Rattle.std.proofs.Math.Option.{Option, none, some, map, Option-elim}
+use Rattle.octets.specs.declared.Refusal.{Refusal}
+use Rattle.octets.specs.declared.Refusal.TheVariants.{DataTooLong, Unframed, TableTooShort}
 
 -- ---- octets
 -- bit 8 of an octet is set
@@ -123,15 +125,15 @@ elements s = fold (λ e es. map (λ (r : List Element). e ∷ r) es) none (some 
 abbrev pub most_octets : ℕ
 most_octets = 2048
 
--- Application data is refused with a number, or taken as its elements.
+-- Application data is refused, or taken as its elements.
 pub data Cut : Type 0 where
-  refused : ℕ → Cut
+  refused : Refusal → Cut
   taken : List Element → Cut
 
 -- number 3 if the table is too small
 unfoldable pub room_for : ℕ → List Element → Cut
-room_for entries es = cond (ltb entries (length es)) (refused 3) (taken es)
+room_for entries es = cond (ltb entries (length es)) (refused TableTooShort) (taken es)
 
 -- number 1 if the data is too long, otherwise 2 if it can't be framed, otherwise 3 if the table is too small
 unfoldable pub cut : ℕ → List ℕ → Cut
-cut entries s = cond (ltb most_octets (length s)) (refused 1) (Option-elim (elements s) (refused 2) (room_for entries))
+cut entries s = cond (ltb most_octets (length s)) (refused DataTooLong) (Option-elim (elements s) (refused Unframed) (room_for entries))

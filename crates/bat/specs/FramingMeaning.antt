@@ -1,13 +1,15 @@
 -- What the answers of framing mean, by the definitions of `Framing`. `code.X` is the code's type X (see `Code`).
-use Rattle.std.specs.Prelude.{ℕ, ◌+◌, ◌≤◌, ◌≡◌, List, cond, length, take, drop, leb}
+use Rattle.std.specs.Prelude.{ℕ, ◌+◌, ◌≤◌, ◌≡◌, List, cond, length, take, drop, leb, Result, Ok, Err, Some, None}
+use Rattle.std.specs.Prelude as std
 use Rattle.std.proofs.Math.Option.{Option, none, some}
+use Rattle.octets.specs.declared.Refusal.{Refusal}
 use Rattle.bat.specs.Code as code
 use Rattle.bat.specs.Framing.{Length, sized, unsized, Element, Front, first, unframed, ended, Cut, refused, taken}
 
 -- a length at the front of s, if s has that many octets
-unfoldable pub size_in : List ℕ → code.Size → Option Length
-size_in s (code.Of n k) = cond (leb k (length s)) (some (sized (take k s) n (drop k s))) none
-size_in s code.Missing = some unsized
+unfoldable pub size_in : List ℕ → std.Option code.Size → Option Length
+size_in s (Some z) = cond (leb z.octets (length s)) (some (sized (take z.octets s) z.length (drop z.octets s))) none
+size_in s None = some unsized
 
 -- how many octets of an element are before its contents, and how many it has
 abbrev pub header_length : code.Frame → ℕ
@@ -28,10 +30,10 @@ element_in s f =
     }
 
 -- what is at the front of s; none if s has fewer octets than the element
-unfoldable pub front_in : List ℕ → code.Framed → Option Front
-front_in s (code.Whole f) = cond (leb (whole_length f) (length s)) (some (first (element_in s f) (drop (whole_length f) s))) none
-front_in s code.Unframed = some unframed
-front_in s code.Ended = some ended
+unfoldable pub front_in : List ℕ → Result (std.Option code.Frame) code.Unframed → Option Front
+front_in s (Ok (Some f)) = cond (leb (whole_length f) (length s)) (some (first (element_in s f) (drop (whole_length f) s))) none
+front_in s (Err e) = some unframed
+front_in s (Ok None) = some ended
 
 -- The answers of `header_length` and `whole_length`. The bounds follow from the widths of a frame's fields (2 + 255 +
 -- 65535, and 65535 more), and are stated for callers.
@@ -43,7 +45,7 @@ pub record WholeLength (f : code.Frame) (r : ℕ) : Type 0 where
   pub is : r ≡ whole_length f
   pub few : r ≤ 131327
 
--- document 01's number, or the count of elements
-unfoldable pub count_of : Cut → code.Counted
-count_of (refused n) = code.Refused n
-count_of (taken es) = code.Elements (length es)
+-- the refusal, or the count of elements
+unfoldable pub count_of : Cut → Result ℕ Refusal
+count_of (refused e) = Err e
+count_of (taken es) = Ok (length es)

@@ -1,17 +1,16 @@
 -- Document 01, "Elements", the last two paragraphs (YD/T 1193.4 after Q.765.5, 4.6.1.1, figure 9, and 4.6.1.8 b):
 -- what an unrecognised element asks for by its first compatibility octet, and what becomes of the data.
-use Rattle.std.specs.Prelude.{ℕ, ◌+◌, ◌/◌, ◌%◌, List, [], ◌∷◌, map, Bool, false, not, ◌&&◌, ◌||◌, cond, length, eqb}
-use Rattle.bat.specs.declared.Place.{Place}
-use Rattle.bat.specs.declared.Place.TheVariants.{Itself, Inner}
+use Rattle.std.specs.Prelude.{ℕ, ◌+◌, ◌/◌, ◌%◌, List, [], ◌∷◌, map, Bool, false, not, ◌&&◌, ◌||◌, cond, length, eqb, Some, None}
+use Rattle.octets.specs.declared.Refusal.{Refusal}
 use Rattle.bat.specs.Framing.{Element, header, Cut, refused, taken, cut}
-use Rattle.bat.specs.Values.{Diagnostic, Value, Decoding, decoded, unrecognised, decoding}
+use Rattle.bat.specs.Values.{Diagnostic, Value, Place, Decoding, decoded, unrecognised, decoding}
 
 -- ---- the diagnostic
 -- Its index: 0 if the element itself is at fault. Otherwise the position in the contents, plus the octets before the
 -- contents, since the index counts from the element's identifier.
 unfoldable pub index_by : ℕ → Place → ℕ
-index_by n Itself = 0
-index_by n (Inner d) = n + d
+index_by n None = 0
+index_by n (Some d) = n + d
 
 -- ---- the outcome
 -- An outcome is a number: 0 pass the element on, 1 discard the element, 2 discard the data, 3 release the call.
@@ -84,13 +83,13 @@ some_says n (v ∷ vs) = says n v || some_says n vs
 unfoldable pub data_outcome : List Finding → ℕ
 data_outcome vs = cond (some_says 3 vs) 3 (cond (some_says 2 vs) 2 0)
 
--- Application data is refused with its number, or judged: one finding for each element.
+-- Application data is refused, or judged: one finding for each element.
 pub data JudgedData : Type 0 where
-  refused_data : ℕ → JudgedData
+  refused_data : Refusal → JudgedData
   judged_elements : List Finding → JudgedData
 
 unfoldable pub judged_by : Bool → Cut → JudgedData
-judged_by pass (refused n) = refused_data n
+judged_by pass (refused e) = refused_data e
 judged_by pass (taken es) = judged_elements (map (finding pass) es)
 
 unfoldable pub judged_data : Bool → ℕ → List ℕ → JudgedData

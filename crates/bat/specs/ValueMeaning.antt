@@ -1,5 +1,6 @@
 -- What decoded values mean, by the definitions of `Values`; spans are places in s. `code.X` is the code's type X (see `Code`).
-use Rattle.std.specs.Prelude.{ℕ, List, Bool, true, ◌&&◌, cond}
+use Rattle.std.specs.Prelude.{ℕ, List, Bool, true, ◌&&◌, cond, Result, Ok, Err, Some, None}
+use Rattle.std.specs.Prelude as std
 use Rattle.std.proofs.Math.Option.{Option, none, some, map}
 use Rattle.octets.specs.Spans.{text_of, inside}
 use Rattle.bat.specs.Code as code
@@ -11,9 +12,9 @@ single_codec_in s c = record { organisation = c.organisation; information = text
 abbrev pub inner_type_in : code.InnerType → InnerType
 inner_type_in k = record { compatibility = k.compatibility; kind = k.kind }
 
-unfoldable pub inner_duration_in : code.InnerDuration → InnerDuration
-inner_duration_in code.Untimed = untimed
-inner_duration_in (code.Lasting c n) = lasting c n
+unfoldable pub inner_duration_in : std.Option code.InnerDuration → InnerDuration
+inner_duration_in None = untimed
+inner_duration_in (Some t) = lasting t.compatibility t.duration
 
 -- What a value means, by the octets of s in its spans; none if a span that should hold codecs or diagnostics does not.
 unfoldable pub value_by : List ℕ → code.Value → Option Value
@@ -55,6 +56,6 @@ value_inside s (code.Duration n) = true
 unfoldable pub value_in : List ℕ → code.Value → Option Value
 value_in s v = cond (value_inside s v) (value_by s v) none
 
-unfoldable pub decoding_in : List ℕ → code.Decoding → Option Decoding
-decoding_in s (code.Decoded v) = map decoded (value_in s v)
-decoding_in s (code.Unrecognised p) = some (unrecognised p)
+unfoldable pub decoding_in : List ℕ → Result code.Value code.Unrecognised → Option Decoding
+decoding_in s (Ok v) = map decoded (value_in s v)
+decoding_in s (Err u) = some (unrecognised u.inner)

@@ -1,11 +1,10 @@
 -- Document 01, "Elements", the list of identifiers (YD/T 1193.4 after Q.765.5, 4.6.1.2 to 4.6.1.17): what the contents of
 -- an element are decoded as. Simple elements come in the order of their numbers, then the two constructors. Where
 -- Q.765.5 leaves a code spare or a length open, document 01's ranges decide: outside them the element is unrecognised.
-use Rattle.std.specs.Prelude.{ℕ, suc, ◌+◌, ◌*◌, ◌%◌, List, [], ◌∷◌, Bool, true, ◌&&◌, cond, length, take, drop, leb, ltb, eqb}
+use Rattle.std.specs.Prelude.{ℕ, suc, ◌+◌, ◌*◌, ◌%◌, List, [], ◌∷◌, Bool, true, ◌&&◌, cond, length, take, drop, leb, ltb, eqb, Some, None}
 use Rattle.std.proofs.Math.Option.{Option, none, some, map, Option-elim}
 use Rattle.codes.specs.Codes.{is_action, is_indicator, is_signal}
-use Rattle.bat.specs.declared.Place.{Place}
-use Rattle.bat.specs.declared.Place.TheVariants.{Itself, Inner}
+use Rattle.std.specs.Prelude as std
 use Rattle.bat.specs.Framing.{octet, unmarked, Element, whole, front, on_front, walk}
 
 -- ---- values
@@ -68,15 +67,19 @@ pub data Value : Type 0 where
   -- 15
   duration : ℕ → Value
 
--- An element is decoded as a value, or it is unrecognised. The place says what is at fault: the element itself, or its
--- first faulty inner element, given by its position in the contents.
+-- What is at fault in an unrecognised element: its first faulty inner element, given by its position in the contents, or if
+-- there is none the element itself.
+abbrev pub Place : Type 0
+Place = std.Option ℕ
+
+-- An element is decoded as a value, or it is unrecognised. The place says what is at fault.
 pub data Decoding : Type 0 where
   decoded : Value → Decoding
   unrecognised : Place → Decoding
 
 -- the element itself is at fault
 abbrev pub wrong : Decoding
-wrong = unrecognised Itself
+wrong = unrecognised None
 
 -- x if b holds, otherwise wrong
 abbrev pub or_wrong : Bool → Decoding → Decoding
@@ -214,7 +217,7 @@ codecs_in s = walk codec_then offence (all_codecs []) 0 s
 
 unfoldable pub codec_list_in : List ℕ → Decoding
 codec_list_in s =
-    cond (eqb (length s) 0) wrong (on_codecs (codecs_in s) (λ cs. decoded (codecs cs)) (λ d. unrecognised (Inner d)))
+    cond (eqb (length s) 0) wrong (on_codecs (codecs_in s) (λ cs. decoded (codecs cs)) (λ d. unrecognised (Some d)))
 
 -- 11, signal (4.6.1.13): a signal type, then at most one duration.
 unfoldable pub is_type : Element → Bool
@@ -233,18 +236,18 @@ inner_duration e = lasting (meant e.compatibility) (sixteen_bits e.contents)
 unfoldable pub last_by : InnerType → ℕ → Element → List ℕ → Decoding
 last_by k d e t =
     cond (is_duration e)
-    (cond (eqb (length t) 0) (decoded (signal k (inner_duration e))) (unrecognised (Inner (d + length (whole e)))))
-    (unrecognised (Inner d))
+    (cond (eqb (length t) 0) (decoded (signal k (inner_duration e))) (unrecognised (Some (d + length (whole e)))))
+    (unrecognised (Some d))
 
 -- after the 14, which has d octets, comes t
 unfoldable pub timed_by : InnerType → ℕ → List ℕ → Decoding
-timed_by k d t = on_front (front t) (last_by k d) (unrecognised (Inner d)) (decoded (signal k untimed))
+timed_by k d t = on_front (front t) (last_by k d) (unrecognised (Some d)) (decoded (signal k untimed))
 
 unfoldable pub signal_by : Element → List ℕ → Decoding
-signal_by e t = cond (is_type e) (timed_by (inner_type e) (length (whole e)) t) (unrecognised (Inner 0))
+signal_by e t = cond (is_type e) (timed_by (inner_type e) (length (whole e)) t) (unrecognised (Some 0))
 
 unfoldable pub signal_in : List ℕ → Decoding
-signal_in s = on_front (front s) signal_by (unrecognised (Inner 0)) wrong
+signal_in s = on_front (front s) signal_by (unrecognised (Some 0)) wrong
 
 -- ---- by identifier
 -- Any other identifier, national ones included, is unrecognised whatever its contents.

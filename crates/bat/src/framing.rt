@@ -5,8 +5,8 @@ ghost use Rattle.bat.specs.Framing.{octet, unmarked, length_of, front, elements,
 ghost use Rattle.bat.specs.FramingMeaning.{size_in, front_in, element_in, HeaderLength, WholeLength, count_of};
 ghost use Rattle.bat.specs.Private.{count_in};
 
-use crate::{Counted, Frame, Framed, MOST_OCTETS, Size};
-use octets::Span;
+use crate::{Frame, MOST_OCTETS, Size, Unframed};
+use octets::{Refusal, Span};
 
 // x in sixteen bits.
 fn wide(x: u8) -> u16
@@ -16,24 +16,30 @@ fn wide(x: u8) -> u16
 }
 
 // The length at the front of s.
-pub fn read_size(s: &[u8]) -> Size
+pub fn read_size(s: &[u8]) -> Option<Size>
     ensures { size_in s.now result ≡ some (length_of s.now) }
 {
     if s.len() < 1 {
-        return Size::Missing;
+        return None;
     }
     let a = s[0];
     if 128 <= a {
-        return Size::Of(wide(a % 128), 1);
+        return Some(Size {
+            length: wide(a % 128),
+            octets: 1,
+        });
     }
     if s.len() < 2 {
-        return Size::Missing;
+        return None;
     }
     let b = s[1];
     if b < 128 {
-        return Size::Missing;
+        return None;
     }
-    Size::Of(wide(a % 128) + wide(b % 16) * 128, 2)
+    Some(Size {
+        length: wide(a % 128) + wide(b % 16) * 128,
+        octets: 2,
+    })
 }
 
 // How many octets of s are before the first with bit 8 set.
@@ -60,38 +66,37 @@ pub fn octet_at(s: &[u8], k: usize) -> u8
     0
 }
 
-// What is at the front of s.
-pub fn first_element(s: &[u8]) -> Framed
+// The element at the front of s, if s is not empty.
+pub fn first_element(s: &[u8]) -> Result<Option<Frame>, Unframed>
     ensures { front_in s.now result ≡ some (front s.now) }
 {
     if s.len() < 1 {
-        return Framed::Ended;
+        return Ok(None);
     }
     let t = octets::spans::after(s, 1);
-    let size = read_size(t);
-    let Size::Of(n, k) = size else {
-        return Framed::Unframed;
+    let Some(size) = read_size(t) else {
+        return Err(Unframed);
     };
-    if n == 0 {
-        return Framed::Unframed;
+    let m = size.length as usize;
+    if m == 0 {
+        return Err(Unframed);
     }
-    let u = octets::spans::after(t, k as usize);
-    let m = n as usize;
+    let u = octets::spans::after(t, size.octets as usize);
     if u.len() < m {
-        return Framed::Unframed;
+        return Err(Unframed);
     }
     let c = octets::spans::up_to(u, m);
     let x = count_unmarked(c);
-    if x < m {
-        return Framed::Whole(Frame {
-            identifier: s[0],
-            size: k,
-            compatibility: octet_at(c, 0),
-            extension: x as u16,
-            length: (m - 1 - x) as u16,
-        });
+    if m <= x {
+        return Err(Unframed);
     }
-    Framed::Unframed
+    Ok(Some(Frame {
+        identifier: s[0],
+        size: size.octets,
+        compatibility: octet_at(c, 0),
+        extension: x as u16,
+        length: (m - 1 - x) as u16,
+    }))
 }
 
 // How many octets of an element are before its contents.
@@ -117,44 +122,30 @@ pub fn contents(s: &[u8], f: Frame) -> &[u8]
     octets::spans::text(s, Span { at: at, len: len })
 }
 
-// How many elements the data has, or number 2.
-fn count_elements(data: &[u8]) -> Counted
+// How many elements the data has; refused if it can't be framed.
+fn count_elements(data: &[u8]) -> Result<usize, Refusal>
     ensures { result ≡ count_in (elements «data».now) }
 {
-    let mut at = 0;
+    let mut rest = data;
     let mut n = 0;
-    while at < data.len() {
-        let x = first_element(octets::spans::after(data, at));
-        match x {
-            Framed::Whole(f) => {
-                at += whole_length(f);
-                n += 1;
-            }
-            Framed::Unframed => {
-                return Counted::Refused(2);
-            }
-            Framed::Ended => {
-                return Counted::Elements(n);
-            }
-        }
+    while let Some(f) = first_element(rest)? {
+        rest = octets::spans::after(rest, whole_length(f));
+        n += 1;
     }
-    Counted::Elements(n)
+    Ok(n)
 }
 
-// How many elements the data has, or the number that refuses it: 1 if it is too long, 2 if it can't be framed,
-// 3 if the table is too small.
-pub fn count(data: &[u8], entries: usize) -> Counted
+// How many elements the data has. Refused if it is too long, otherwise if it can't be framed, otherwise if the table is
+// too small.
+pub fn count(data: &[u8], entries: usize) -> Result<usize, Refusal>
     ensures { result ≡ count_of (cut entries «data».now) }
 {
     if MOST_OCTETS < data.len() {
-        return Counted::Refused(1);
+        return Err(Refusal::DataTooLong);
     }
-    let c = count_elements(data);
-    let Counted::Elements(n) = c else {
-        return c;
-    };
+    let n = count_elements(data)?;
     if entries < n {
-        return Counted::Refused(3);
+        return Err(Refusal::TableTooShort);
     }
-    Counted::Elements(n)
+    Ok(n)
 }

@@ -2,20 +2,23 @@
 // answer, by value. A span is a place in a slice that is passed beside it: the data, or an element's contents.
 #![tactic(auto)]
 
+ghost use Rattle.std.specs.Prelude.{◌≡◌};
+ghost use Rattle.octets.specs.declared.Refusal.TheVariants as Refusal;
+
 pub mod framing;
 pub mod judging;
 pub mod ranges;
 
-use octets::Span;
+use octets::{Refusal, Span};
 
 // The most octets of application data, and of a whole element.
 pub const MOST_OCTETS: usize = 2048;
 
 // A length field: the number, and how many octets it takes.
 #[derive(Clone, Copy)]
-pub enum Size {
-    Of(u16, u8),
-    Missing,
+pub struct Size {
+    pub length: u16,
+    pub octets: u8,
 }
 
 // An element at the front of a slice. After its identifier come `size` octets of length, the first
@@ -29,19 +32,16 @@ pub struct Frame {
     pub length: u16,
 }
 
-// What is at the front of a slice.
+// No element can be framed at the front of a slice that is not empty.
 #[derive(Clone, Copy)]
-pub enum Framed {
-    Whole(Frame),
-    Unframed,
-    Ended,
-}
+pub struct Unframed;
 
-// How many elements application data has, or the number that refuses it.
-#[derive(Clone, Copy)]
-pub enum Counted {
-    Elements(usize),
-    Refused(u8),
+impl From<Unframed> for Refusal {
+    ghost from_gives = { λ _ e. e ≡ Refusal.Unframed };
+
+    fn from(_e: Unframed) -> Refusal {
+        Refusal::Unframed
+    }
 }
 
 // A single codec: its organisation, and the octets after it.
@@ -60,9 +60,9 @@ pub struct InnerType {
 
 // The duration inside a signal, with bits 7 to 1 of its own compatibility octet.
 #[derive(Clone, Copy)]
-pub enum InnerDuration {
-    Untimed,
-    Lasting { compatibility: u8, duration: u16 },
+pub struct InnerDuration {
+    pub compatibility: u8,
+    pub duration: u16,
 }
 
 // The value of a decoded element. A span is a place in the element's contents.
@@ -86,7 +86,7 @@ pub enum Value {
     },
     Signal {
         kind: InnerType,
-        duration: InnerDuration,
+        duration: Option<InnerDuration>,
     },
     Capability(bool),
     Indicators(Span),
@@ -94,23 +94,15 @@ pub enum Value {
     Duration(u16),
 }
 
-// What is at fault in an unrecognised element: the element itself, or its first faulty inner element, given by the
-// place of that one's identifier in the contents.
+// An element is unrecognised: its first faulty inner element is at fault, given by the place of that one's identifier in
+// the contents, or if there is none the element itself.
 #[derive(Clone, Copy)]
-pub enum Place {
-    Itself,
-    Inner(usize),
-}
-
-// What an element's contents are read as.
-#[derive(Clone, Copy)]
-pub enum Decoding {
-    Decoded(Value),
-    Unrecognised(Place),
+pub struct Unrecognised {
+    pub inner: Option<usize>,
 }
 
 // What an unrecognised element asks for.
-#[derive(Clone, Copy)]
+#[derive(Clone, Copy, PartialEq, Eq)]
 pub enum Outcome {
     PassOn,
     DiscardElement,
@@ -133,24 +125,17 @@ pub struct Judged {
     pub diagnostic: Diagnostic,
 }
 
-// The finding on an element: its value, or the judgement of an unrecognised one.
-#[derive(Clone, Copy)]
-pub enum Finding {
-    Recognised(Value),
-    Unknown(Judged),
-}
-
 // The outcome of application data as a whole.
-#[derive(Clone, Copy)]
+#[derive(Clone, Copy, PartialEq, Eq)]
 pub enum DataOutcome {
     Neither,
     DiscardAll,
     ReleaseAll,
 }
 
-// The answer to application data: the number that refuses it, or how many elements it has and their outcome.
+// Application data that is taken: how many elements it has, and their outcome.
 #[derive(Clone, Copy)]
-pub enum DataAnswer {
-    Refused(u8),
-    Taken { count: usize, outcome: DataOutcome },
+pub struct Taken {
+    pub count: usize,
+    pub outcome: DataOutcome,
 }

@@ -11,16 +11,16 @@ returns-then-s-lt1 c = search (fronts, rules)
 pub returns-in_default : goal.returns-in_default
 returns-in_default c = search (fronts, rules)
 
-pub returns-then-n-eq0 : goal.returns-then-n-eq0
-returns-then-n-eq0 c = search (fronts, rules)
+pub returns-then-m-eq0 : goal.returns-then-m-eq0
+returns-then-m-eq0 c = search (fronts, rules)
 
 pub returns-then-u-m : goal.returns-then-u-m
 returns-then-u-m c = search (fronts, rules)
 
-pub returns-then-x-m : goal.returns-then-x-m
-returns-then-x-m c =
-    front_framed _ (omega arith) _ c.after-t.ensures _ c.read_size-size.ensures _ _ (cc) c.if-n-eq0.false _
-    c.after-u.ensures (omega arith) _ c.up_to-c.ensures _ c.count_unmarked-x.ensures _ (omega arith) c.octet_at.ensures
+pub returns-then-m-x : goal.returns-then-m-x
+returns-then-m-x c = search (fronts, rules)
 
 pub returns : goal.returns
-returns c = search (fronts, rules)
+returns c =
+    front_framed _ (omega arith) _ c.after-t.ensures _ c.read_size.ensures _ (cc) c.if-m-eq0.false _
+    c.after-u.ensures (omega arith) _ c.up_to-c.ensures _ c.count_unmarked-x.ensures _ (omega arith) c.octet_at.ensures
