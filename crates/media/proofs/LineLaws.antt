@@ -1,35 +1,29 @@
 -- Laws of reading a media line and its attributes: what the code's tests leave, in their order, gives the definition's tests
 -- their values, and a stored span stands for the text that the definition has.
 -- Assumes nothing.
-use Prim.Native.Nat.{ℕ, ◌+◌, ◌≤◌}
+use Prim.Native.Nat.{ℕ, ◌≤◌, ◌<◌}
 use mathlib.Core.Path.{◌≡◌, sym, ap, ◌∙◌, refl}
 use mathlib.Core.List.{List, [], ◌∷◌, ◌++◌}
 use mathlib.Core.Bool.{Bool, true, false}
 use mathlib.Core.Option.{Option, some}
-use lib.ListN.{length, take, drop}
-use lib.Seq.{drop-drop}
+use lib.ListN.{length, get_or, drop}
 use lib.Dec.{eqb, ltb}
 use native.Mathlib.Omega.{arith}
-use borrow.Author.Tests.{eqb-true, eqb-false, lt-ltb, le-ltb, le-leb, eq-eqb}
+use borrow.Author.Tests.{eqb-true, eqb-false, lt-ltb, le-ltb, le-leb, lt-leb, eq-eqb}
 use Rattle.octets.specs.declared.Span.{Span}
-use Rattle.octets.specs.declared.Number.{Number}
-use Rattle.octets.specs.declared.Number.TheVariants.{Value}
+use Rattle.std.specs.Prelude.{Some, None}
+use Rattle.std.specs.Prelude as code
 use Rattle.octets.specs.Decimal.{read_number, on_number}
 use Rattle.octets.specs.Spans.{text_of}
 use Rattle.octets.specs.Words.{begins}
 use Rattle.texts.specs.Tokens.{token, after_blank, tokens_of}
-use Rattle.texts.specs.declared.Four.{Four}
-use Rattle.texts.specs.declared.Four.TheVariants as four
-use Rattle.texts.specs.Lengths.{four_by}
-use Rattle.texts.proofs.LengthLaws.{four_isnt, four_count, four_first, four_second, four_third, four_fourth}
+use Rattle.texts.specs.Meaning.{cut_in}
+use Rattle.texts.proofs.CutLaws.{cut_isnt, cut_count, cut_token}
 use Rattle.media.specs.declared.Texts.{Texts}
 use Rattle.media.specs.declared.Stream.{Stream as Places}
-use Rattle.media.specs.declared.Taken.{Taken}
-use Rattle.media.specs.declared.Taken.TheVariants.{Stream as TakenStream, Wrong}
 use Rattle.media.specs.Stream.{Stream, bare_stream, rtpmap_word, fmtp_word, ptime_word}
 use Rattle.media.specs.Attributes.{fitting, with_rtpmap, with_fmtp, media_of, rtpmap_of, fmtp_of, ptime_of, attribute_of}
 use Rattle.media.specs.Meaning.{spans_of, texts_by, stream_by, taken_by, bare_places}
-use Rattle.media.specs.Private.{media_by}
 use Rattle.media.proofs.TextsLaws.{map_snoc}
 
 -- ---- the media line
@@ -43,31 +37,48 @@ pub media_stored : (m : List ℕ) (sp r : Span) (a b : List ℕ) (port payload :
     → stream_by m y ≡ bare_stream a port b payload
 media_stored m sp r a b port payload y e p q = rw (e, ← p, ← q) (bare_says m sp r port payload)
 
--- by its four tokens: z is what the port's text was read as, and w the payload's
-module _ (m a b c d : List ℕ) (z w : Number) (port payload : ℕ) (y : Places) where
-  pub media_read : z ≡ read_number b → z ≡ Value port → w ≡ read_number d → w ≡ Value payload → 1 ≤ port → payload ≤ 127
-      → stream_by m y ≡ bare_stream a port c payload → taken_by m (TakenStream y) ≡ media_by a b c d
-  unfolding media_by on_number taken_by
-  media_read f g h k l o p = rw (← f, g, ← h, k, le-leb 1 port l, le-leb payload 127 o, p)
-
--- y is the cut into four tokens
-module _ (m t : List ℕ) (y : Four) (is : four_by t y ≡ tokens_of 4 t) where
-  pub media_few : y ≡ four.Other → taken_by m Wrong ≡ media_of t
+-- the media line t, which is cut into tokens, or not
+module _ (m t : List ℕ) (y : code.Option (List Span)) (is : cut_in t y ≡ tokens_of 4 t) (x : code.Option Places) where
+  pub media_few : y ≡ None → x ≡ None → taken_by m x ≡ media_of t
   unfolding media_of taken_by
-  media_few e = rw (four_isnt t y is e)
+  media_few e p = rw (cut_isnt 4 t y is e, p)
 
-  -- r comes after the media, and u after the port; b and d are the port's text and the payload's
-  pub media_four : (i j k : ℕ) → y ≡ four.Lengths i j k → (r : List ℕ) → r ≡ drop (i + 1) t → (u : List ℕ) → u ≡ drop (j + 1) r
-      → (b : List ℕ) → b ≡ take j r → (d : List ℕ) → d ≡ drop (k + 1) u → (v : Span) → t ≡ text_of m v → (x : Taken)
-      → taken_by m x ≡ media_by (text_of (text_of m v) (record { at = 0; len = i })) b (text_of (text_of m v) (record { at = i + 1 + (j + 1); len = k })) d
-      → taken_by m x ≡ media_of t
-  unfolding media_of media_by text_of
-  media_four i j k q r rs u us b bs d ds v at x p =
-      let f : taken_by m x ≡ media_by (take i t) b (take k (drop (i + 1 + (j + 1)) t)) d = rw (← at) at p in
-      let g : drop (j + 1) (drop (i + 1) t) ≡ drop (i + 1 + (j + 1)) t = drop-drop (j + 1) (i + 1) t in
-      rw (four_count t y is i j k q, four_first t y is i j k q, four_second t y is i j k q, four_third t y is i j k q, four_fourth t y is i j k q, ← rs, ← us, ← bs, ← ds, us, rs, g) f
+  -- b is the port's text, and z the number that it was read as; d and w are the payload's
+  module _ (xs : List Span) (q : y ≡ Some xs) (b : List ℕ) (bs : b ≡ text_of t (get_or xs 1 (record { at = 0; len = 0 }))) (z : code.Option ℕ) (f : z ≡ read_number b) where
+    port_is : read_number (token 1 t) ≡ z
+    port_is = rw (cut_token 4 t y is xs q 1 (omega arith), ← bs) (sym f)
 
-pub ruleset medias = (media_few, media_four)
+    pub media_no_port : z ≡ None → x ≡ None → taken_by m x ≡ media_of t
+    unfolding media_of taken_by on_number
+    media_no_port e p = rw (cut_count 4 t y is xs q, port_is, e, p)
+
+    module _ (port : ℕ) (g : z ≡ Some port) (d : List ℕ) (ds : d ≡ text_of t (get_or xs 3 (record { at = 0; len = 0 }))) (w : code.Option ℕ) (h : w ≡ read_number d) where
+      payload_is : read_number (token 3 t) ≡ w
+      payload_is = rw (cut_token 4 t y is xs q 3 (omega arith), ← ds) (sym h)
+
+      pub media_no_payload : w ≡ None → x ≡ None → taken_by m x ≡ media_of t
+      unfolding media_of taken_by on_number
+      media_no_payload e p = rw (cut_count 4 t y is xs q, port_is, g, payload_is, e, p)
+
+      module _ (payload : ℕ) (k : w ≡ Some payload) where
+        pub media_low : port < 1 → x ≡ None → taken_by m x ≡ media_of t
+        unfolding media_of taken_by on_number
+        media_low l p = rw (cut_count 4 t y is xs q, port_is, g, payload_is, k, lt-leb 1 port l, p)
+
+        pub media_high : 1 ≤ port → 127 < payload → x ≡ None → taken_by m x ≡ media_of t
+        unfolding media_of taken_by on_number
+        media_high l o p = rw (cut_count 4 t y is xs q, port_is, g, payload_is, k, le-leb 1 port l, lt-leb payload 127 o, p)
+
+        pub media_read : (v : Span) (s : Places) → 1 ≤ port → payload ≤ 127 → t ≡ text_of m v
+            → stream_by m s ≡ bare_stream (text_of (text_of m v) (get_or xs 0 (record { at = 0; len = 0 }))) port (text_of (text_of m v) (get_or xs 2 (record { at = 0; len = 0 }))) payload
+            → x ≡ Some s → taken_by m x ≡ media_of t
+        unfolding media_of taken_by on_number
+        media_read v s l o at e p =
+            let first = cut_token 4 t y is xs q 0 (omega arith) in
+            let third = cut_token 4 t y is xs q 2 (omega arith) in
+            rw (cut_count 4 t y is xs q, port_is, g, payload_is, k, le-leb 1 port l, le-leb payload 127 o, p, first, third) (ap (λ (u : Stream). some u) (rw (← at) at e))
+
+pub ruleset medias = (media_few, media_no_port, media_no_payload, media_low, media_high, media_read)
 
 -- ---- the attributes
 -- i, the test for an empty text, where that text is a
@@ -79,10 +90,10 @@ module _ (m : List ℕ) (sp : Span) (a : List ℕ) (p : text_of m sp ≡ a) (i :
   is_some h = rw (← p) (lt-ltb 0 (length (text_of m sp)) (omega (arith, eqb-false (length (text_of m sp)) 0 (sym e ∙ h))))
 
 -- a first rtpmap line with the media line's payload: i and j are the tests for the text before and for the new one, at sp
-module _ (m t : List ℕ) (s : Places) (sp : Span) (i j : Bool) (z : Number) (n : ℕ)
-    (e : i ≡ eqb (length (text_of m s.rtpmap)) 0) (h : i ≡ true) (f : z ≡ read_number (token 0 t)) (g : z ≡ Value n) (k : n ≡ s.payload)
+module _ (m t : List ℕ) (s : Places) (sp : Span) (i j : Bool) (z : code.Option ℕ) (n : ℕ)
+    (e : i ≡ eqb (length (text_of m s.rtpmap)) 0) (h : i ≡ true) (f : z ≡ read_number (token 0 t)) (g : z ≡ Some n) (k : n ≡ s.payload)
     (p : text_of m sp ≡ after_blank t) (q : j ≡ eqb (length (text_of m sp)) 0) where
-  pub rtpmap_empty : j ≡ true → taken_by m Wrong ≡ rtpmap_of (stream_by m s) t
+  pub rtpmap_empty : j ≡ true → taken_by m None ≡ rtpmap_of (stream_by m s) t
   unfolding rtpmap_of on_number taken_by stream_by
   rtpmap_empty l = rw (← e, h, ← f, g, eq-eqb n s.payload k, is_none m sp (after_blank t) p j q l)
 

@@ -1,14 +1,13 @@
 -- What the structs and enums of this crate stand for. The code's `Stream` (here `code.Stream`) and the definition's are the same
 -- thing: the code's has places in a source, as spans, where the definition's has the texts.
-use Rattle.std.specs.Prelude.{ℕ, ◌≡◌, List, [], ◌∷◌, map, Bool, true, ◌&&◌, take, leb}
+use Rattle.std.specs.Prelude.{ℕ, ◌≡◌, List, [], ◌∷◌, map, Bool, true, ◌&&◌, take, leb, Some, None}
+use Rattle.std.specs.Prelude as answer
 use Rattle.std.proofs.Math.Option.{Option, none, some}
 use Rattle.octets.specs.declared.Span.{Span}
 use Rattle.octets.specs.Chain.{when}
 use Rattle.octets.specs.Spans.{text_of, inside}
 use Rattle.media.specs.declared.Texts.{Texts}
 use Rattle.media.specs.declared.Stream as code
-use Rattle.media.specs.declared.Taken.{Taken}
-use Rattle.media.specs.declared.Taken.TheVariants.{Stream as TakenStream, Wrong}
 use Rattle.media.specs.Stream.{Stream}
 
 -- the spans that a `Texts` holds
@@ -44,9 +43,9 @@ bare_places media port transport payload = record {
 }
 
 -- the stream with the line that was read, if the line is right
-unfoldable pub taken_by : List ℕ → Taken → Option Stream
-taken_by m (TakenStream s) = some (stream_by m s)
-taken_by m Wrong = none
+unfoldable pub taken_by : List ℕ → answer.Option code.Stream → Option Stream
+taken_by m (Some s) = some (stream_by m s)
+taken_by m None = none
 
 -- ---- spans that all lie inside their source
 unfoldable pub all_in : List ℕ → List Span → Bool

@@ -5,20 +5,20 @@ ghost use Rattle.texts.specs.Tokens.{after_blank};
 ghost use Rattle.media.specs.Attributes.{fitting, rtpmap_of, fmtp_of, ptime_of};
 ghost use Rattle.media.specs.Meaning.{spans_of, stream_by, taken_by};
 
-use crate::{Stream, Taken, Texts, limit, token_number};
+use crate::{Stream, Texts, limit, token_number};
+use octets::Span;
 use octets::decimal::read_number;
 use octets::spans::text;
-use octets::{Number, Span};
 use texts::{after_blank, inner};
 
 // s, if its attributes are not too long.
-fn fitting(s: Stream, m: &[u8]) -> Taken
+fn fitting(s: Stream, m: &[u8]) -> Option<Stream>
     ensures { taken_by m.now result ≡ fitting (stream_by m.now s) }
 {
     if limit::attributes_fit(s, m) {
-        return Taken::Stream(s);
+        return Some(s);
     }
-    Taken::Wrong
+    None
 }
 
 // The text of sp in m is empty.
@@ -38,28 +38,26 @@ fn span_after_blank(m: &[u8], v: Span, t: &[u8]) -> Span
 }
 
 // s with this rtpmap line.
-pub(crate) fn rtpmap(s: Stream, m: &[u8], v: Span, t: &[u8]) -> Taken
+pub(crate) fn rtpmap(s: Stream, m: &[u8], v: Span, t: &[u8]) -> Option<Stream>
     requires { t.now ≡ text_of m.now v }
     ensures { taken_by m.now result ≡ rtpmap_of (stream_by m.now s) t.now }
 {
     let old = s.rtpmap;
     if is_empty(old, m) {
-        let Number::Value(n) = token_number(t, 0) else {
-            return Taken::Wrong;
-        };
+        let n = token_number(t, 0)?;
         let payload = s.payload as u16;
         if n != payload {
-            return Taken::Wrong;
+            return None;
         }
         let new = span_after_blank(m, v, t);
         if is_empty(new, m) {
-            return Taken::Wrong;
+            return None;
         }
         let mut next = s;
         next.rtpmap = new;
         return fitting(next, m);
     }
-    Taken::Wrong
+    None
 }
 
 // How many texts x holds.
@@ -96,13 +94,13 @@ fn push(x: Texts, sp: Span) -> Texts
 }
 
 // s with this fmtp line.
-pub(crate) fn fmtp(s: Stream, m: &[u8], v: Span) -> Taken
+pub(crate) fn fmtp(s: Stream, m: &[u8], v: Span) -> Option<Stream>
     ensures { taken_by m.now result ≡ fmtp_of (stream_by m.now s) (text_of m.now v) }
 {
     let x = s.fmtp;
     let n = count(x);
     if 3 <= n {
-        return Taken::Wrong;
+        return None;
     }
     let mut next = s;
     next.fmtp = push(x, v);
@@ -110,23 +108,21 @@ pub(crate) fn fmtp(s: Stream, m: &[u8], v: Span) -> Taken
 }
 
 // s with this ptime line.
-pub(crate) fn ptime(s: Stream, m: &[u8], t: &[u8]) -> Taken
+pub(crate) fn ptime(s: Stream, m: &[u8], t: &[u8]) -> Option<Stream>
     ensures { taken_by m.now result ≡ ptime_of (stream_by m.now s) t.now }
 {
     let old = s.ptime;
     if old != 0 {
-        return Taken::Wrong;
+        return None;
     }
-    let Number::Value(n) = read_number(t) else {
-        return Taken::Wrong;
-    };
+    let n = read_number(t)?;
     if n < 1 {
-        return Taken::Wrong;
+        return None;
     }
     if 255 < n {
-        return Taken::Wrong;
+        return None;
     }
     let mut next = s;
     next.ptime = n as u8;
-    Taken::Stream(next)
+    Some(next)
 }

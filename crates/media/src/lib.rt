@@ -12,14 +12,13 @@ ghost use Rattle.texts.specs.Tokens.{token};
 ghost use Rattle.media.specs.Stream.{bare_stream};
 ghost use Rattle.media.specs.Attributes.{media_of, is_attribute, attribute_of};
 ghost use Rattle.media.specs.Meaning.{stream_by, bare_places, taken_by};
-ghost use Rattle.media.specs.Private.{media_by};
 
+use octets::Span;
 use octets::decimal::read_number;
 use octets::parts::part;
-use octets::spans::{after, text, up_to};
+use octets::spans::{after, text};
 use octets::words::starts;
-use octets::{Number, Span};
-use texts::{Four, cut_four, inner, skip};
+use texts::{cut, inner, skip};
 
 // The most octets of rtpmap and fmtp lines together, without their ends.
 pub const MOST_ATTRIBUTES: usize = 256;
@@ -46,13 +45,6 @@ pub struct Stream {
     pub ptime: u8,
 }
 
-// What a line was read as.
-#[derive(Clone, Copy)]
-pub enum Taken {
-    Stream(Stream),
-    Wrong,
-}
-
 // A stream with these texts and numbers, and no attribute.
 pub fn bare(media: Span, port: u16, transport: Span, payload: u8) -> Stream
     ensures { result ≡ bare_places media port transport payload }
@@ -75,7 +67,7 @@ pub fn bare(media: Span, port: u16, transport: Span, payload: u8) -> Stream
 }
 
 // The number that the k-th token of t, from 0, stands for.
-pub(crate) fn token_number(t: &[u8], k: usize) -> Number
+pub(crate) fn token_number(t: &[u8], k: usize) -> Option<u16>
     ensures { result ≡ read_number (token k t.now) }
 {
     read_number(part(t, b' ', k))
@@ -89,60 +81,25 @@ fn bare_stream(m: &[u8], v: Span, media: Span, port: u16, transport: Span, paylo
     bare(inner(m, v, media), port, inner(m, v, transport), payload)
 }
 
-// Reads a media line by its four tokens: the texts of port and payload, and the parts of the text of v in m that are media and
-// transport.
-fn media_tokens(
-    m: &[u8],
-    v: Span,
-    media: Span,
-    port: &[u8],
-    transport: Span,
-    payload: &[u8],
-) -> Taken
-    ensures { taken_by m.now result ≡ media_by (text_of (text_of m.now v) media) port.now (text_of (text_of m.now v) transport) payload.now }
-{
-    let Number::Value(p) = read_number(port) else {
-        return Taken::Wrong;
-    };
-    let Number::Value(n) = read_number(payload) else {
-        return Taken::Wrong;
-    };
-    if p < 1 {
-        return Taken::Wrong;
-    }
-    if 127 < n {
-        return Taken::Wrong;
-    }
-    Taken::Stream(bare_stream(m, v, media, p, transport, n as u8))
-}
-
 // Reads the media line t, the text of v in m.
-fn media_text(m: &[u8], v: Span, t: &[u8]) -> Taken
+fn media_text(m: &[u8], v: Span, t: &[u8]) -> Option<Stream>
     requires { t.now ≡ text_of m.now v }
     ensures { taken_by m.now result ≡ media_of t.now }
 {
-    let Four::Lengths(a, b, c) = cut_four(t) else {
-        return Taken::Wrong;
-    };
-    let media = Span { at: 0, len: a };
-    let after_media = after(t, a + 1);
-    let transport = Span {
-        at: a + 1 + (b + 1),
-        len: c,
-    };
-    let after_port = after(after_media, b + 1);
-    media_tokens(
-        m,
-        v,
-        media,
-        up_to(after_media, b),
-        transport,
-        after(after_port, c + 1),
-    )
+    let [media, port, transport, payload] = cut::<4>(t)?;
+    let p = read_number(text(t, port))?;
+    let n = read_number(text(t, payload))?;
+    if p < 1 {
+        return None;
+    }
+    if 127 < n {
+        return None;
+    }
+    Some(bare_stream(m, v, media, p, transport, n as u8))
 }
 
 // Reads what comes after `m=`: the text of v in m.
-pub fn read_media(m: &[u8], v: Span) -> Taken
+pub fn read_media(m: &[u8], v: Span) -> Option<Stream>
     ensures { taken_by m.now result ≡ media_of (text_of m.now v) }
 {
     media_text(m, v, text(m, v))
@@ -162,7 +119,7 @@ pub fn is_attribute(a: &[u8]) -> bool
 }
 
 // The stream s with the attribute line whose value, after `a=`, is the text of v in m.
-pub fn add_attribute(s: Stream, m: &[u8], v: Span) -> Taken
+pub fn add_attribute(s: Stream, m: &[u8], v: Span) -> Option<Stream>
     ensures { taken_by m.now result ≡ attribute_of (stream_by m.now s) (text_of m.now v) }
 {
     let a = text(m, v);
@@ -176,5 +133,5 @@ pub fn add_attribute(s: Stream, m: &[u8], v: Span) -> Taken
     if starts(b"ptime:", a) {
         return attributes::ptime(s, m, after(a, 6));
     }
-    Taken::Stream(s)
+    Some(s)
 }

@@ -224,11 +224,11 @@ tokens_there : (n : ℕ) (s : List ℕ) → eqb (token_count s) n ≡ true → t
 unfolding tokens_of
 tokens_there n s h = rw h
 
-part_map : (s : List ℕ) (k : ℕ) (xs : List Span) (x : Span) → x ≡ get_or xs k x → k < length xs → part_at k (list.map (text_of s) xs) ≡ text_of s x
+part_map : (s : List ℕ) (k : ℕ) (xs : List Span) → k < length xs → part_at k (list.map (text_of s) xs) ≡ text_of s (get_or xs k (record { at = 0; len = 0 }))
 unfolding part_at
-part_map s k [] x e h = absurd (omega arith)
-part_map s zero (y ∷ ys) x e h = rw e
-part_map s (suc k) (y ∷ ys) x e h = part_map s k ys x e (omega arith)
+part_map s k [] h = absurd (omega arith)
+part_map s zero (y ∷ ys) h = refl
+part_map s (suc k) (y ∷ ys) h = part_map s k ys (omega arith)
 
 module _ (n : ℕ) (s : List ℕ) (y : code.Option (List Span)) (is : cut_in s y ≡ tokens_of n s) where
   pub cut_isnt : y ≡ None → eqb (token_count s) n ≡ false
@@ -253,9 +253,9 @@ module _ (n : ℕ) (s : List ℕ) (y : code.Option (List Span)) (is : cut_in s y
         (λ b. let z : eqb 0 n ≡ true = rw (f.1, b) at f.0 in absurd (omega (arith, eqb-true 0 n z)))
 
     -- the token at place k
-    pub cut_token : (k : ℕ) (x : Span) → x ≡ get_or xs k x → k < n → token k s ≡ text_of s x
+    pub cut_token : (k : ℕ) → k < n → token k s ≡ text_of s (get_or xs k (record { at = 0; len = 0 }))
     unfolding part_at
-    cut_token k x e h = rw (are n s _ texts_are).1 (part_map s k xs x e (omega (arith, many (omega arith))))
+    cut_token k h = rw (are n s _ texts_are).1 (part_map s k xs (omega (arith, many (omega arith))))
 
 -- ---- `after_token`
 module _ (s : List ℕ) (e : ℕ) (f : Found s 32 0 e) where

@@ -1,30 +1,33 @@
--- `media_text` meets its contract: the line has four tokens, or not.
+-- `media_text` meets its contract: the code makes the tests of the definition in their order.
 -- Assumes nothing.
-use borrow.Author.Rules.{rules}
-use Rattle.media.proofs.LineLaws.{medias}
-use Rattle.texts.proofs.LengthLaws.{lengths}
+use mathlib.Core.Path.{refl}
+use Rattle.media.proofs.LineLaws.{media_few, media_no_port, media_no_payload, media_low, media_high, media_read}
 use Rattle.media.proofs.media_text.Goals as goal
 
-pub returns-in_default : goal.returns-in_default
-returns-in_default c = search (medias, rules)
+pub returns-in_err-media : goal.returns-in_err-media
+returns-in_err-media c = media_few _ _ _ c.cut.ensures _ c.in_err-media.was c.from_residual.ensures
 
-pub overflow_add-a : goal.overflow_add-a
-overflow_add-a c = search (lengths, rules)
+pub returns-in_err-p : goal.returns-in_err-p
+returns-in_err-p c =
+    media_no_port _ _ _ c.cut.ensures _ _ c.in_ok-media.was _ c.text.ensures _ c.read_number.ensures
+    c.in_err-p.was c.from_residual-in_err-p.ensures
 
-pub overflow_add-transport : goal.overflow_add-transport
-overflow_add-transport c = search (lengths, rules)
+pub returns-in_err-n : goal.returns-in_err-n
+returns-in_err-n c =
+    media_no_payload _ _ _ c.cut.ensures _ _ c.in_ok-media.was _ c.text.ensures _ c.read_number.ensures _ c.in_ok-p.was _ c.text-2.ensures _ c.read_number-2.ensures
+    c.in_err-n.was c.from_residual-in_err-n.ensures
 
-pub overflow_add-transport-2 : goal.overflow_add-transport-2
-overflow_add-transport-2 c = search (lengths, rules)
+pub returns-then-p-lt1 : goal.returns-then-p-lt1
+returns-then-p-lt1 c =
+    media_low _ _ _ c.cut.ensures _ _ c.in_ok-media.was _ c.text.ensures _ c.read_number.ensures _ c.in_ok-p.was _ c.text-2.ensures _ c.read_number-2.ensures
+    _ c.in_ok-n.was c.if-p-lt1.true refl
 
-pub overflow_add-transport-3 : goal.overflow_add-transport-3
-overflow_add-transport-3 c = search (lengths, rules)
-
-pub overflow_add-b : goal.overflow_add-b
-overflow_add-b c = search (lengths, rules)
-
-pub overflow_add-c : goal.overflow_add-c
-overflow_add-c c = search (lengths, rules)
+pub returns-then-n-gt127 : goal.returns-then-n-gt127
+returns-then-n-gt127 c =
+    media_high _ _ _ c.cut.ensures _ _ c.in_ok-media.was _ c.text.ensures _ c.read_number.ensures _ c.in_ok-p.was _ c.text-2.ensures _ c.read_number-2.ensures
+    _ c.in_ok-n.was c.if-p-lt1.false c.if-n-gt127.true refl
 
 pub returns : goal.returns
-returns c = search (medias, rules)
+returns c =
+    media_read _ _ _ c.cut.ensures _ _ c.in_ok-media.was _ c.text.ensures _ c.read_number.ensures _ c.in_ok-p.was _ c.text-2.ensures _ c.read_number-2.ensures
+    _ c.in_ok-n.was _ _ c.if-p-lt1.false c.if-n-gt127.false c.requires c.bare_stream.ensures refl
