@@ -9,6 +9,7 @@ use lib.Seq.{length-take-le}
 use native.Mathlib.Nat.{suc-add, div-div-eq-div-mul, div-add-mod', le_refl}
 use native.Mathlib.Omega.{arith}
 use borrow.Author.Tests.{lt-ltb, le-ltb, le-leb, eq-eqb}
+use Rattle.std.specs.declared.option.Option.TheVariants.{Some}
 use Rattle.octets.specs.Append.{number_text}
 use Rattle.octets.specs.Decimal.{is_digit}
 use Rattle.octets.specs.Split.{has, split_on}
@@ -16,16 +17,15 @@ use Rattle.octets.proofs.CaseLaws.{by_lt}
 use Rattle.octets.proofs.RoundTrip.{number_has}
 use Rattle.address.specs.declared.Address.{Address}
 use Rattle.address.specs.declared.Address.TheVariants.{V4, V6}
-use Rattle.address.specs.declared.Parsed.TheVariants.{Unicast}
 use Rattle.address.specs.declared.ipv6.Halves.{Halves}
 use Rattle.address.specs.declared.write.Run.{Run}
-use Rattle.address.specs.Kinds.{is_unicast, if_unicast4, if_unicast6}
+use Rattle.address.specs.Kinds.{is_unicast, if_unicast}
 use Rattle.address.specs.Parts.{all_parts, in_base}
 use Rattle.address.specs.Ipv4.{is_octet, octet_value, is_dotted, dotted_value, read_v4}
 use Rattle.address.specs.Ipv6.{is_group, group_value, if_unicast_groups, full, before_gap, after_gap, filled, gapped, read_v6}
 use Rattle.address.specs.Canonical.{joined, dotted_numbers, ipv4_text, group_text, four_groups, groups_of, longest_run, shortened, ipv6_text, address_text}
 use Rattle.address.specs.Back.{fits, read_like}
-use Rattle.address.proofs.KindLaws.{if_unicast4_is, if_unicast6_is}
+use Rattle.address.proofs.KindLaws.{unicast_is}
 use Rattle.address.proofs.PartLaws.{Below, none, one, below_take, below_drop, all_texts, values_texts}
 use Rattle.address.proofs.GapLaws.{has_gap_lem, no_gap, gap_here}
 use Rattle.address.proofs.HalvesLaws.{halves_of, halves_of_lem}
@@ -68,7 +68,7 @@ length_dotted_numbers : (n : ℕ) → length (dotted_numbers n) ≡ 4
 unfolding dotted_numbers
 length_dotted_numbers n = refl
 
-ipv4_read : (n : ℕ) → n < 2 ^ 32 → read_v4 (ipv4_text n) ≡ if_unicast4 n
+ipv4_read : (n : ℕ) → n < 2 ^ 32 → read_v4 (ipv4_text n) ≡ if_unicast (V4 n)
 unfolding read_v4 is_dotted dotted_value
 ipv4_read n h =
     rw (
@@ -104,11 +104,11 @@ groups_of_value high low p q =
     ap (λ (n : ℕ). (((n * 65536 + low / 2 ^ 48 % 65536) * 65536 + low / 2 ^ 32 % 65536) * 65536 + low / 65536 % 65536) * 65536 + low % 65536) (half_value 0 high p ∙ omega arith)
     ∙ half_value high low q
 
-groups_written : (high low : ℕ) → high < 2 ^ 64 → low < 2 ^ 64 → if_unicast_groups (groups_of high low) ≡ if_unicast6 high low
+groups_written : (high low : ℕ) → high < 2 ^ 64 → low < 2 ^ 64 → if_unicast_groups (groups_of high low) ≡ if_unicast (V6 high low)
 unfolding if_unicast_groups halves_of
 groups_written high low p q =
     let e : halves_of (in_base 65536 0 (groups_of high low)) ≡ (let y : Halves = record { high = high; low = low } in y) = ap halves_of (groups_of_value high low p q) ∙ halves_of_lem high low q in
-    ap (λ (x : Halves). if_unicast6 x.high x.low) e
+    ap (λ (x : Halves). if_unicast (V6 x.high x.low)) e
 
 -- ---- IPv6: the texts
 groups_all : (gs : List ℕ) → Below 65536 gs → all_parts is_group (map group_text gs) ≡ true
@@ -171,23 +171,23 @@ length_groups_of : (high low : ℕ) → length (groups_of high low) ≡ 8
 unfolding groups_of four_groups
 length_groups_of high low = refl
 
-ipv6_read : (high low : ℕ) → high < 2 ^ 64 → low < 2 ^ 64 → read_v6 (ipv6_text high low) ≡ if_unicast6 high low
+ipv6_read : (high low : ℕ) → high < 2 ^ 64 → low < 2 ^ 64 → read_v6 (ipv6_text high low) ≡ if_unicast (V6 high low)
 unfolding ipv6_text
 ipv6_read high low p q =
     shortened_back (groups_of high low) (longest_run (groups_of high low)) (groups_of_below high low) (length_groups_of high low) (longest_is (groups_of high low))
     ∙ groups_written high low p q
 
 -- ---- the theorems
-pub ipv4_back : (n : ℕ) → n < 2 ^ 32 → is_unicast (V4 n) ≡ true → read_v4 (address_text (V4 n)) ≡ Unicast (V4 n)
+pub ipv4_back : (n : ℕ) → n < 2 ^ 32 → is_unicast (V4 n) ≡ true → read_v4 (address_text (V4 n)) ≡ Some (V4 n)
 unfolding address_text
-ipv4_back n h e = ipv4_read n h ∙ if_unicast4_is n e
+ipv4_back n h e = ipv4_read n h ∙ unicast_is (V4 n) e
 
-pub ipv6_back : (high low : ℕ) → high < 2 ^ 64 → low < 2 ^ 64 → is_unicast (V6 high low) ≡ true → read_v6 (address_text (V6 high low)) ≡ Unicast (V6 high low)
+pub ipv6_back : (high low : ℕ) → high < 2 ^ 64 → low < 2 ^ 64 → is_unicast (V6 high low) ≡ true → read_v6 (address_text (V6 high low)) ≡ Some (V6 high low)
 unfolding address_text
-ipv6_back high low p q e = ipv6_read high low p q ∙ if_unicast6_is high low e
+ipv6_back high low p q e = ipv6_read high low p q ∙ unicast_is (V6 high low) e
 
 -- every address of one host is read from the text that is written for it
-pub address_back : (a : Address) → fits a → is_unicast a ≡ true → read_like a (address_text a) ≡ Unicast a
+pub address_back : (a : Address) → fits a → is_unicast a ≡ true → read_like a (address_text a) ≡ Some a
 unfolding fits read_like
 address_back (V4 n) h e = ipv4_back n h e
 address_back (V6 high low) h e = ipv6_back high low h.0 h.1 e

@@ -1,17 +1,16 @@
 -- Laws of runs of zeros: the better of the longest so far and the run at a position is the longest so far at the next one.
 -- Assumes nothing.
-use Prim.Native.Nat.{ℕ, suc, ◌+◌, ◌≤◌, ◌<◌}
+use Prim.Native.Nat.{ℕ, suc, ◌+◌, ◌-◌, ◌≤◌, ◌<◌}
 use mathlib.Core.Path.{◌≡◌, refl, sym, ap, ap₂, ◌∙◌}
 use mathlib.Core.Bool.{Bool, true, false, cond}
 use mathlib.Core.List.{List, [], ◌∷◌, ◌++◌}
 use lib.ListN.{length, get_or, take, drop, replicate, length-drop, drop_of_length-le, take-append-drop}
 use lib.Seq.{drop-drop}
 use lib.Dec.{eqb, ltb}
-use native.Mathlib.Nat.{add-zero}
 use native.Mathlib.Omega.{arith}
 use borrow.Author.Tests.{eq-eqb, ne_eqb}
 use Rattle.octets.proofs.CaseLaws.{by_eq}
-use Rattle.octets.proofs.Laws.{next}
+use Rattle.octets.proofs.Laws.{next, tail_is}
 use Rattle.address.specs.declared.write.Run.{Run}
 use Rattle.address.specs.Canonical.{zeros, better, longest_from, longest_run}
 use Rattle.address.specs.Private.{Longest}
@@ -22,33 +21,18 @@ zeros_none = refl
 
 zeros_more : (b : ℕ) (bs : List ℕ) → b ≡ 0 → zeros (b ∷ bs) ≡ suc (zeros bs)
 unfolding zeros
-zeros_more b bs e = rw (eq-eqb b 0 e)
+zeros_more b bs e = rw (eq-eqb b 0 e) (omega arith)
 
 zeros_stop : (b : ℕ) (bs : List ℕ) → (b ≡ 0 → ⊥) → zeros (b ∷ bs) ≡ 0
 unfolding zeros
 zeros_stop b bs e = rw (ne_eqb b 0 e)
-
-module _ (gs : List ℕ) (z k x : ℕ) (inv : z + zeros (drop k gs) ≡ x) where
-  pub zero_next : k < length gs → get_or gs k 0 ≡ 0 → z + 1 + zeros (drop (k + 1) gs) ≡ x
-  zero_next h e =
-      let m : z + suc (zeros (drop (k + 1) gs)) ≡ x = rw (next gs k h, zeros_more (get_or gs k 0) (drop (k + 1) gs) e) at inv in
-      omega arith
-
-  pub zero_stop : k < length gs → (get_or gs k 0 ≡ 0 → ⊥) → z ≡ x
-  zero_stop h e = rw (next gs k h, zeros_stop (get_or gs k 0) (drop (k + 1) gs) e, add-zero) at inv
-
-  pub zero_end : length gs ≤ k → z ≡ x
-  unfolding zeros
-  zero_end h = rw (drop_of_length-le gs h, add-zero) at inv
-
-pub ruleset zeros_counted = (zero_next, zero_stop, zero_end)
 
 zeros_small : (gs : List ℕ) → zeros gs ≤ length gs
 unfolding zeros
 zeros_small [] = omega arith
 zeros_small (g ∷ gs) = go (eqb g 0) (zeros_small gs)
   where
-    go : (t : Bool) → zeros gs ≤ length gs → cond t (suc (zeros gs)) 0 ≤ suc (length gs)
+    go : (t : Bool) → zeros gs ≤ length gs → cond t (1 + zeros gs) 0 ≤ suc (length gs)
     go true h = omega arith
     go false h = omega arith
 
@@ -61,20 +45,20 @@ better_inside r i z n h k = go (ltb r.len z)
     go false = h
 
 module _ (gs : List ℕ) (r : Run) (i : ℕ) (x : Run) (inv : longest_from r i (drop i gs) ≡ x) where
-  pub longest_turn : (z : ℕ) (q : Run) → i < length gs → z ≡ zeros (drop i gs) → q ≡ better r i z → longest_from q (i + 1) (drop (i + 1) gs) ≡ x
+  pub longest_turn : (z : ℕ) (q : Run) → i < length gs → z ≡ zeros (take (length gs - i) (drop i gs)) → q ≡ better r i z → longest_from q (i + 1) (drop (i + 1) gs) ≡ x
   unfolding longest_from
   longest_turn z q h e p =
       let m : longest_from (better r i (zeros (get_or gs i 0 ∷ drop (i + 1) gs))) (i + 1) (drop (i + 1) gs) ≡ x = rw (next gs i h) at inv in
-      rw (p, e, next gs i h) m
+      rw (p, e, tail_is gs i, next gs i h) m
 
   longest_end : length gs ≤ i → r ≡ x
   unfolding longest_from
   longest_end h = rw (drop_of_length-le gs h) at inv
 
-pub inside_turn : (gs : List ℕ) (r : Run) (i z : ℕ) (q : Run) → r.start + r.len ≤ length gs → i < length gs → z ≡ zeros (drop i gs) → q ≡ better r i z → q.start + q.len ≤ length gs
+pub inside_turn : (gs : List ℕ) (r : Run) (i z : ℕ) (q : Run) → r.start + r.len ≤ length gs → i < length gs → z ≡ zeros (take (length gs - i) (drop i gs)) → q ≡ better r i z → q.start + q.len ≤ length gs
 inside_turn gs r i z q h k e p =
     rw p
-    (better_inside r i z (length gs) h (omega (arith, zeros_small (drop i gs), length-drop i gs)))
+    (better_inside r i z (length gs) h (omega (arith, ap zeros (tail_is gs i), zeros_small (drop i gs), length-drop i gs)))
 
 pub longest_done : (gs : List ℕ) (r : Run) (i : ℕ) → longest_from r i (drop i gs) ≡ longest_run gs → r.start + r.len ≤ length gs → length gs ≤ i → Longest gs r
 longest_done gs r i inv h k = record { is = longest_end gs r i (longest_run gs) inv k; inside = h }

@@ -1,8 +1,7 @@
 -- What it means that a written address is read back.
-use Rattle.std.specs.Prelude.{ℕ, ◌<◌, ◌^◌, List}
+use Rattle.std.specs.Prelude.{ℕ, ◌<◌, ◌^◌, List, Option}
 use Rattle.address.specs.declared.Address.{Address}
 use Rattle.address.specs.declared.Address.TheVariants.{V4, V6}
-use Rattle.address.specs.declared.Parsed.{Parsed}
 use Rattle.address.specs.Ipv4.{read_v4}
 use Rattle.address.specs.Ipv6.{read_v6}
 
@@ -12,6 +11,6 @@ fits (V4 n) = n < 2 ^ 32
 fits (V6 high low) = (high < 2 ^ 64) × (low < 2 ^ 64)
 
 -- the reader of the address's family
-unfoldable pub read_like : Address → List ℕ → Parsed
+unfoldable pub read_like : Address → List ℕ → Option Address
 read_like (V4 n) s = read_v4 s
 read_like (V6 high low) s = read_v6 s

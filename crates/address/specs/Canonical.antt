@@ -1,6 +1,7 @@
 -- Document 01, "Message, version 1", the paragraph on addresses: the one text that is written for an address. IPv4 is four
 -- decimal numbers; IPv6 follows RFC 5952, section 4, and never has decimal numbers.
-use Rattle.std.specs.Prelude.{ℕ, zero, suc, ◌+◌, ◌-◌, ◌/◌, ◌%◌, ◌^◌, List, [], ◌∷◌, ◌++◌, cond, take, drop, ltb, eqb}
+use Rattle.std.specs.Prelude.{ℕ, zero, suc, ◌+◌, ◌-◌, ◌/◌, ◌%◌, ◌^◌, List, [], ◌∷◌, ◌++◌, cond, take, drop, ltb, nat_eq}
+use Rattle.std.specs.List.{prefix_len}
 use Rattle.octets.specs.Append.{number_text}
 use Rattle.octets.specs.Text.{ascii, char}
 use Rattle.address.specs.declared.Address.{Address}
@@ -54,8 +55,7 @@ groups_of high low = four_groups high ++ four_groups low
 
 -- how many zeros gs starts with
 unfoldable pub zeros : List ℕ → ℕ
-zeros [] = 0
-zeros (g ∷ gs) = cond (eqb g 0) (suc (zeros gs)) 0
+zeros gs = prefix_len (λ g. nat_eq g 0) gs
 
 -- the longer of r and the run of z zeros at i; r if they are equal
 unfoldable pub better : Run → ℕ → ℕ → Run

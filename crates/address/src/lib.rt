@@ -6,20 +6,13 @@ pub mod ipv6;
 pub mod write;
 
 ghost use Rattle.std.specs.Prelude.{◌≡◌};
-ghost use Rattle.address.specs.Kinds.{is_unicast};
+ghost use Rattle.address.specs.Kinds.{is_unicast, if_unicast};
 
 // An address: of 32 bits, or the two halves of 128 bits.
-#[derive(Clone, Copy)]
+#[derive(Clone, Copy, Debug, PartialEq, Eq)]
 pub enum Address {
     V4(u32),
     V6 { high: u64, low: u64 },
-}
-
-// What a text was read as: a unicast address, or none that the card can use.
-#[derive(Clone, Copy)]
-pub enum Parsed {
-    Unicast(Address),
-    Unreadable,
 }
 
 // Dividing by these powers of two takes out the first number or octet of an address, or a group.
@@ -50,4 +43,11 @@ pub fn is_unicast(a: Address) -> bool
             low != 0
         }
     }
+}
+
+// The address, if it is unicast.
+fn if_unicast(a: Address) -> Option<Address>
+    ensures { result ≡ if_unicast a }
+{
+    is_unicast(a).then_some(a)
 }

@@ -1,5 +1,5 @@
 // Addresses appended to a buffer as text.
-ghost use Rattle.std.specs.Prelude.{◌≡◌, ◌∷◌, ◌++◌, ◌<◌, drop};
+ghost use Rattle.std.specs.Prelude.{◌≡◌, ◌∷◌, ◌++◌, ◌<◌};
 ghost use Rattle.octets.specs.Text.{ascii, char};
 ghost use Rattle.octets.specs.Append.{Appends, number_text};
 ghost use Rattle.address.specs.Canonical.{low_digit, group_text, each_after, joined, zeros, better, longest_run, shortened, ipv4_text, ipv6_text, address_text};
@@ -71,11 +71,9 @@ fn push_colon_group(g: u16, out: &mut [u8], at: usize) -> usize
 fn push_each(gs: &[u16], out: &mut [u8], at: usize) -> usize
     ensures { Appends out.old at (each_after (char ":") group_text gs.now) result out.new }
 {
-    let mut j = 0;
     let mut k = at;
-    while j < gs.len() {
-        k = push_colon_group(gs[j], out, k);
-        j += 1;
+    for g in gs {
+        k = push_colon_group(*g, out, k);
     }
     k
 }
@@ -91,20 +89,12 @@ fn push_groups(gs: &[u16], out: &mut [u8], at: usize) -> usize
     push_each(&gs[1..], out, k)
 }
 
-// How many zeros gs has from i on.
-fn zeros_at(gs: &[u16], i: usize) -> usize
-    ensures { result ≡ zeros (drop i gs.now) }
+// How many zeros gs starts with.
+#[tactic(auto, unfolding(crate::specs::Canonical::zeros))]
+fn zeros(gs: &[u16]) -> usize
+    ensures { result ≡ zeros gs.now }
 {
-    let mut k = i;
-    let mut z: usize = 0;
-    while k < gs.len() {
-        if gs[k] != 0 {
-            return z;
-        }
-        z += 1;
-        k += 1;
-    }
-    z
+    gs.iter().take_while(|g| **g == 0).count()
 }
 
 // The longer of r and the run of z zeros at i; r if they are equal.
@@ -123,11 +113,8 @@ fn longest(gs: &[u16]) -> Run
     ensures { Longest gs.now result }
 {
     let mut r = Run { start: 0, len: 0 };
-    let mut i = 0;
-    while i < gs.len() {
-        let z = zeros_at(gs, i);
-        r = better_run(r, i, z);
-        i += 1;
+    for i in 0..gs.len() {
+        r = better_run(r, i, zeros(&gs[i..]));
     }
     r
 }

@@ -1,32 +1,51 @@
--- `ipv4::read_ipv4` meets its contract. Each part that is read leaves one fewer to come, and the last ends the text.
--- Assumes nothing.
+use Prim.Native.Nat.{◌+◌, ◌-◌}
+use mathlib.Core.Path.{◌≡◌}
+use native.Mathlib.Omega.{arith}
 use borrow.Author.Rules.{rules}
-use Rattle.address.proofs.Ipv4Laws.{bad_1, short_1, bad_2, short_2, bad_3, short_3, bad_4, long_4, whole}
+use Rattle.address.proofs.Ipv4Laws.{octets_start, value_small, step_bad, step_dot, step_short, step_long, step_last, octets_next, octets_below}
 use Rattle.address.proofs.ipv4.read_ipv4.Goals as goal
 
-pub returns-in_default : goal.returns-in_default
-returns-in_default c = search (bad_1, rules)
+pub loop-k-init : goal.loop-k-init
+loop-k-init c = search (octets_start, rules)
 
-pub returns-then-s-e1 : goal.returns-then-s-e1
-returns-then-s-e1 c = search (short_1, rules)
+pub returns-in_err-part : goal.returns-in_err-part
+returns-in_err-part c = search (step_bad, rules)
 
-pub returns-in_default-read_part : goal.returns-in_default-read_part
-returns-in_default-read_part c = search (bad_2, rules)
+pub returns-then-s-end : goal.returns-then-s-end
+returns-then-s-end c = step_short c.args.s.now c.loop-k.i (4 - c.loop-k._k) c.loop-k.n _ c.loop-k.invariant.2 _ c.read_part.ensures c.in_ok-part.part c.in_ok-part.was (omega arith) c.if-s-end.true
 
-pub returns-then-s-e2 : goal.returns-then-s-e2
-returns-then-s-e2 c = search (short_2, rules)
+pub overflow_mul-n : goal.overflow_mul-n
+overflow_mul-n c = let m = octets_below c.loop-k.n c.loop-k._k c.loop-k.invariant.1 (omega arith) in omega arith
 
-pub returns-in_default-read_part-2 : goal.returns-in_default-read_part-2
-returns-in_default-read_part-2 c = search (bad_3, rules)
+pub overflow_add-n : goal.overflow_add-n
+overflow_add-n c =
+    let m = octets_below c.loop-k.n c.loop-k._k c.loop-k.invariant.1 (omega arith) in
+    let v = value_small c.args.s.now c.loop-k.i (4 - c.loop-k._k) c.loop-k.n _ c.loop-k.invariant.2 _ c.read_part.ensures c.in_ok-part.part c.in_ok-part.was in
+    omega arith
 
-pub returns-then-s-e3 : goal.returns-then-s-e3
-returns-then-s-e3 c = search (short_3, rules)
+pub loop-k-preserved : goal.loop-k-preserved
+loop-k-preserved c =
+    let v = value_small c.args.s.now c.loop-k.i (4 - c.loop-k._k) c.loop-k.n _ c.loop-k.invariant.2 _ c.read_part.ensures c.in_ok-part.part c.in_ok-part.was in
+    let e : 4 - (c.loop-k._k + 1) ≡ 3 - c.loop-k._k = omega arith in (
+      omega arith,
+      octets_next c.loop-k.n c.loop-k._k c.in_ok-part.part.value c.loop-k.invariant.1 v,
+      rw e (step_dot c.args.s.now c.loop-k.i (4 - c.loop-k._k) c.loop-k.n _ c.loop-k.invariant.2 _ c.read_part.ensures c.in_ok-part.part c.in_ok-part.was (3 - c.loop-k._k) (omega arith) c.if-s-end.false),
+    )
 
-pub returns-in_default-read_part-3 : goal.returns-in_default-read_part-3
-returns-in_default-read_part-3 c = search (bad_4, rules)
+pub returns-in_err-last : goal.returns-in_err-last
+returns-in_err-last c = search (step_bad, rules)
 
-pub returns-then-e4-s : goal.returns-then-e4-s
-returns-then-e4-s c = search (long_4, rules)
+pub returns-then-last-s : goal.returns-then-last-s
+returns-then-last-s c = step_long c.args.s.now c.loop-k.i (4 - c.loop-k._k) c.loop-k.n _ c.loop-k.invariant.2 _ c.read_part-2.ensures c.in_ok-last.last c.in_ok-last.was (omega arith) c.if-last-s.true
+
+pub overflow_mul-n-2 : goal.overflow_mul-n-2
+overflow_mul-n-2 c = let m = octets_below c.loop-k.n c.loop-k._k c.loop-k.invariant.1 (omega arith) in omega arith
+
+pub overflow_add-n-2 : goal.overflow_add-n-2
+overflow_add-n-2 c =
+    let m = octets_below c.loop-k.n c.loop-k._k c.loop-k.invariant.1 (omega arith) in
+    let v = value_small c.args.s.now c.loop-k.i (4 - c.loop-k._k) c.loop-k.n _ c.loop-k.invariant.2 _ c.read_part-2.ensures c.in_ok-last.last c.in_ok-last.was in
+    omega arith
 
 pub returns : goal.returns
-returns c = search (whole, rules)
+returns c = step_last c.args.s.now c.loop-k.i (4 - c.loop-k._k) c.loop-k.n _ c.loop-k.invariant.2 _ c.read_part-2.ensures c.in_ok-last.last c.in_ok-last.was (omega arith) c.if_unicast.result c.if-last-s.false c.if_unicast.ensures

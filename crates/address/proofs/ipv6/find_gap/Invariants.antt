@@ -7,7 +7,4 @@ use Rattle.address.specs.Ipv6.{before_gap}
 use Rattle.address.proofs.ipv6.find_gap.Given as goal
 
 abbrev pub invariant-loop-i : goal.invariant-loop-i
-invariant-loop-i l = (l.i ≤ length l.s) × (l.i + length (before_gap (drop l.i l.s)) ≡ length (before_gap l.s))
-
-abbrev pub decreases-loop-i : goal.decreases-loop-i
-decreases-loop-i l = length l.s - l.i
+invariant-loop-i l = (l.i - 1 ≤ length l.s) × (l.i - 1 + length (before_gap (drop (l.i - 1) l.s)) ≡ length (before_gap l.s))

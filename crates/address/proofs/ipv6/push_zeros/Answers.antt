@@ -2,9 +2,6 @@ use borrow.Author.Rules.{rules}
 use Rattle.address.proofs.SideLaws.{zeros_pushed}
 use Rattle.address.proofs.ipv6.push_zeros.Goals as goal
 
-pub loop-k-init : goal.loop-k-init
-loop-k-init c = search (zeros_pushed, rules)
-
 pub loop-k-preserved : goal.loop-k-preserved
 loop-k-preserved c = search (zeros_pushed, rules)
 

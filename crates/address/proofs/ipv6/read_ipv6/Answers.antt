@@ -4,14 +4,17 @@ use borrow.Author.Rules.{rules}
 use Rattle.address.proofs.Ipv6Laws.{is_full, gap_fits, is_gapped}
 use Rattle.address.proofs.ipv6.read_ipv6.Goals as goal
 
-pub returns-then-s-gap : goal.returns-then-s-gap
-returns-then-s-gap c = search (is_full, rules)
+pub slice_bounds-read_gapped-end : goal.slice_bounds-read_gapped-end
+slice_bounds-read_gapped-end c = search (gap_fits, rules)
 
-pub slice_bounds-read_gapped-count-2 : goal.slice_bounds-read_gapped-count-2
-slice_bounds-read_gapped-count-2 c = search (gap_fits, rules)
+pub slice_bounds-read_gapped-count-in-Some : goal.slice_bounds-read_gapped-count-in-Some
+slice_bounds-read_gapped-count-in-Some c = search (gap_fits, rules)
 
-pub slice_bounds-read_gapped-start-2 : goal.slice_bounds-read_gapped-start-2
-slice_bounds-read_gapped-start-2 c = search (gap_fits, rules)
+pub slice_bounds-read_gapped-start-in-Some : goal.slice_bounds-read_gapped-start-in-Some
+slice_bounds-read_gapped-start-in-Some c = search (gap_fits, rules)
 
-pub returns : goal.returns
-returns c = search (is_gapped, rules)
+pub returns-in-Some : goal.returns-in-Some
+returns-in-Some c = search (is_gapped, rules)
+
+pub returns-in-None : goal.returns-in-None
+returns-in-None c = search (is_full, rules)

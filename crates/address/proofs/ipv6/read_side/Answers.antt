@@ -8,11 +8,11 @@ returns-then-s-lt1 c = search (side_read, rules)
 pub loop-g-init : goal.loop-g-init
 loop-g-init c = search (side_read, rules)
 
-pub returns-in_default : goal.returns-in_default
-returns-in_default c = search (side_read, rules)
+pub returns-in_err-g : goal.returns-in_err-g
+returns-in_err-g c = search (side_read, rules)
 
 pub returns-then-s-e : goal.returns-then-s-e
-returns-then-s-e c = search (side_read, rules)
+returns-then-s-e c = search (side_read, c.in_ok-g.was, rules)
 
 pub loop-g-preserved : goal.loop-g-preserved
-loop-g-preserved c = search (side_read, rules)
+loop-g-preserved c = search (side_read, c.in_ok-g.was, rules)

@@ -9,7 +9,7 @@ use Rattle.address.specs.Private.{side_from}
 use Rattle.address.proofs.ipv6.read_side.Given as goal
 
 abbrev pub invariant-loop-g : goal.invariant-loop-g
-invariant-loop-g l = (l.i ≤ length l.s) × (l.k ≤ l.i) × (side_from l.k l.a (split_on 58 (drop l.i l.s)) ≡ side_from 0 l.initial.a (parts_of l.s))
+invariant-loop-g l = (l.i ≤ length l.s) × (l.count ≤ l.i) × (side_from l.count l.halves (split_on 58 (drop l.i l.s)) ≡ side_from 0 l.initial.halves (parts_of l.s))
 
 abbrev pub decreases-loop-g : goal.decreases-loop-g
 decreases-loop-g l = length l.s - l.i
