@@ -3,32 +3,17 @@
 use Prim.Native.Nat.{ℕ, zero, suc, ◌+◌, ◌-◌, ◌/◌, ◌%◌, ◌≤◌, ◌<◌, min}
 use mathlib.Core.Path.{◌≡◌, refl, sym, ap, ◌∙◌}
 use mathlib.Core.List.{List, [], ◌∷◌, ◌++◌, append_assoc, append-nil as append_empty}
-use lib.ListN.{length, get_or, take, drop, set, length-set, length-append, length-take, length-drop, drop_of_length-le}
-use lib.Seq.{take_all, take-nil, take-append-le, take-append-add}
-use native.Mathlib.Nat.{add-zero}
+use lib.ListN.{length, take, drop, set, length-set, length-append, length-take, length-drop, drop_of_length-le}
+use lib.Seq.{take_all, take-nil, take-append-le, take-append-add, drop-drop}
 use native.Mathlib.Numerals.{add-one, sub-one}
 use native.Mathlib.Omega.{arith}
+use borrow.Rule.Slice.PartMut.{put_mid}
 use borrow.Author.Tests.{lt-ltb, le-ltb}
 use Rattle.octets.specs.Append.{put, next_of, appended, Appends, width_from, number_text}
 use Rattle.octets.specs.Private.{Tail}
 use Rattle.octets.specs.Decimal.{last_digits}
 use Rattle.octets.proofs.CaseLaws.{by_lt}
-use Rattle.octets.proofs.Laws.{next, drop_set_here, put_nil, put_cons, length_put, put_append}
-
--- What is left of src at j goes to at + j of the buffer, which has l. The call was `copy(src, l₀, at)`.
-module _ (src l l₀ : List ℕ) (at j : ℕ) (inv : put l (at + j) (drop j src) ≡ put l₀ at src) where
-  pub copy_turn : j < length src → at + length src ≤ length l₀ → length l ≡ length l₀ → put (set l (at + j) (get_or src j 0)) (at + (j + 1)) (drop (j + 1) src) ≡ put l₀ at src
-  copy_turn h r e =
-      let z : at + (j + 1) ≡ at + j + 1 = omega arith in
-      rw z (sym (put_cons l (at + j) (get_or src j 0) (drop (j + 1) src) (omega arith)) ∙ rw (next src j h) at inv)
-
-  pub copy_end : length src ≤ j → l ≡ put l₀ at src
-  copy_end h = sym (put_nil l (at + j)) ∙ rw (drop_of_length-le src h) at inv
-
-pub copy_start : (src l : List ℕ) (at : ℕ) → put l (at + 0) (drop 0 src) ≡ put l at src
-copy_start src l at = rw add-zero
-
-pub ruleset copying = (copy_turn, copy_end, copy_start)
+use Rattle.octets.proofs.Laws.{drop_set_here, put_nil, put_cons, length_put, put_append}
 
 -- a text that finds no room
 pub push_none : (l : List ℕ) (at : ℕ) (vs : List ℕ) → length l ≤ at → Appends l at vs at l
@@ -37,17 +22,20 @@ push_none l at vs h =
     let z : length l - at ≡ 0 = omega arith in
     record { next = omega arith; leaves = rw z (sym (put_nil l at)) }
 
--- src is put at `at` of the buffer l as far as there is room, which leaves f
-module _ (src l f : List ℕ) (at : ℕ) where
-  pub push_cut : length l - at < length src → f ≡ put l at (take (length l - at - 0) (drop 0 src)) → Appends l at src (at + (length l - at)) f
-  unfolding next_of appended
-  push_cut h e = let z : length l - at - 0 ≡ length l - at = omega arith in record { next = omega arith; leaves = rw z at e }
-
-  pub push_whole : length src ≤ length l - at → f ≡ put l at src → Appends l at src (at + length src) f
-  unfolding next_of appended
-  push_whole h e = record { next = omega arith; leaves = rw (take_all (length l - at) src h) e }
-
-pub ruleset pushing = (push_none, push_cut, push_whole)
+-- src is put at `at` of the buffer l as far as there is room, n octets of it
+pub push_some : (src l p : List ℕ) (at n : ℕ) → at < length l → n ≡ min (length src) (length l - at) → p ≡ take n src
+    → Appends l at src (at + n) (put_mid at (at + n - at) l p)
+unfolding next_of appended put
+push_some src l p at n h m e =
+    let t = take (length l - at) src in
+    let same : take n src ≡ t =
+    by_lt (length src) (length l - at) _
+    (λ k. take_all n src (omega arith) ∙ sym (take_all (length l - at) src (omega arith)))
+    (λ k. let z : n ≡ length l - at = omega arith in rw z)
+    in
+    let q : length t ≡ n = simp length-take (omega arith) in
+    let z : at + n - at ≡ n = omega arith in
+    record { next = omega arith; leaves = rw (z, e, same, q, drop-drop n at l, append_assoc) }
 
 -- nothing appended
 pub append_nil : (l : List ℕ) (at : ℕ) → Appends l at [] at l
@@ -127,11 +115,10 @@ length_last (suc k) n = simp (length-append, length_last k (n / 10), add-one)
 
 -- The last digits of n are in d after its place k, and m is what is left of n.
 module _ (n m k : ℕ) (d : List ℕ) (inv : last_digits (width_from k m) m ++ drop (k + 1) d ≡ number_text n) (room : k < length d) where
-  pub number_turn : 0 < k → 9 < m → last_digits (width_from (k - 1) (m / 10)) (m / 10) ++ drop (k - 1 + 1) (set d k (48 + m % 10)) ≡ number_text n
+  pub number_turn : 0 < k → 9 < m → last_digits (width_from (k - 1) (m / 10)) (m / 10) ++ drop k (set d k (48 + m % 10)) ≡ number_text n
   unfolding last_digits
   number_turn h g =
-      let z : k - 1 + 1 ≡ k = omega arith in
-      rw (z, drop_set_here d k (48 + m % 10) room) (simp (one_more k h, append_assoc, add-one) at inv)
+      rw (drop_set_here d k (48 + m % 10) room) (simp (one_more k h, append_assoc, add-one) at inv)
     where
       one_more : (k : ℕ) → 0 < k → width_from k m ≡ suc (width_from (k - 1) (m / 10))
       one_more zero h = absurd (omega arith)

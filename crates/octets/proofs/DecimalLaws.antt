@@ -3,7 +3,7 @@
 use Prim.Native.Nat.{ℕ, ◌+◌, ◌-◌, ◌*◌, ◌≤◌, ◌<◌}
 use mathlib.Core.Path.{◌≡◌, refl, sym, ap, ◌∙◌}
 use mathlib.Core.List.{List, [], ◌∷◌}
-use mathlib.Core.Bool.{and-false}
+use mathlib.Core.Bool.{true, false, and-false}
 use lib.ListN.{length, get_or, drop, drop_of_length-le}
 use native.Mathlib.Nat.{le_trans, le_refl}
 use native.Mathlib.Omega.{arith}
@@ -13,17 +13,9 @@ use Rattle.std.specs.declared.option.Option.TheVariants.{Some, None}
 use Rattle.octets.specs.Decimal.{is_digit, all_digits, value_from, shortest, number_from, read_number, on_number}
 use Rattle.octets.proofs.Laws.{next}
 
-from_digit : (n b : ℕ) (bs : List ℕ) → 48 ≤ b → b ≤ 57 → number_from n (b ∷ bs) ≡ number_from (n * 10 + (b - 48)) bs
-unfolding number_from all_digits value_from is_digit
-from_digit n b bs p q = simp (le-leb 48 b p, le-leb b 57 q)
-
-from_low : (n b : ℕ) (bs : List ℕ) → b < 48 → number_from n (b ∷ bs) ≡ None
-unfolding number_from all_digits is_digit
-from_low n b bs p = simp (lt-leb 48 b p)
-
-from_high : (n b : ℕ) (bs : List ℕ) → 57 < b → number_from n (b ∷ bs) ≡ None
-unfolding number_from all_digits is_digit
-from_high n b bs p = simp (le-leb 48 b (omega arith), lt-leb b 57 p)
+from_digit : (n b : ℕ) (bs : List ℕ) → is_digit b ≡ true → number_from n (b ∷ bs) ≡ number_from (n * 10 + (b - 48)) bs
+unfolding number_from all_digits value_from
+from_digit n b bs p = simp p
 
 -- more digits make no number smaller
 pub value_grows : (n : ℕ) (s : List ℕ) → n ≤ value_from n s
@@ -37,23 +29,32 @@ from_large n s p = simp (lt-leb (value_from n s) 65535 (omega (arith, value_grow
 
 -- The same at a position: what was read so far is n, and `number_from n` of the rest is the answer x.
 module _ (s : List ℕ) (i n : ℕ) (x : Option ℕ) (inv : number_from n (drop i s) ≡ x) where
+  pub number_other : i < length s → is_digit (get_or s i 0) ≡ false → None ≡ x
+  unfolding number_from all_digits
+  number_other h p = rw (next s i h, p) at inv
+
+  pub number_next : i < length s → is_digit (get_or s i 0) ≡ true → number_from (n * 10 + (get_or s i 0 - 48)) (drop (i + 1) s) ≡ x
+  number_next h p = sym (from_digit n (get_or s i 0) (drop (i + 1) s) p) ∙ ap (number_from n) (sym (next s i h)) ∙ inv
+
+  pub number_large : i < length s → is_digit (get_or s i 0) ≡ true → 65535 < n * 10 + (get_or s i 0 - 48) → None ≡ x
+  number_large h p r = sym (from_large (n * 10 + (get_or s i 0 - 48)) (drop (i + 1) s) r) ∙ number_next h p
+
+  -- the same by the ends of the range of digits
   pub number_low : i < length s → get_or s i 0 < 48 → None ≡ x
-  number_low h p = sym (from_low n (get_or s i 0) (drop (i + 1) s) p) ∙ ap (number_from n) (sym (next s i h)) ∙ inv
+  unfolding is_digit
+  number_low h p = number_other h (rw (lt-leb 48 (get_or s i 0) p))
 
   pub number_high : i < length s → 57 < get_or s i 0 → None ≡ x
-  number_high h p = sym (from_high n (get_or s i 0) (drop (i + 1) s) p) ∙ ap (number_from n) (sym (next s i h)) ∙ inv
+  unfolding is_digit
+  number_high h p = number_other h (rw (le-leb 48 (get_or s i 0) (omega arith), lt-leb (get_or s i 0) 57 p))
 
   pub number_digit : i < length s → 48 ≤ get_or s i 0 → get_or s i 0 ≤ 57 → number_from (n * 10 + (get_or s i 0 - 48)) (drop (i + 1) s) ≡ x
-  number_digit h p q = sym (from_digit n (get_or s i 0) (drop (i + 1) s) p q) ∙ ap (number_from n) (sym (next s i h)) ∙ inv
-
-  pub number_large : i < length s → 48 ≤ get_or s i 0 → get_or s i 0 ≤ 57 → 65535 < n * 10 + (get_or s i 0 - 48) → None ≡ x
-  number_large h p q r = sym (from_large (n * 10 + (get_or s i 0 - 48)) (drop (i + 1) s) r) ∙ number_digit h p q
+  unfolding is_digit
+  number_digit h p q = number_next h (rw (le-leb 48 (get_or s i 0) p, le-leb (get_or s i 0) 57 q))
 
   pub number_end : length s ≤ i → n ≤ 65535 → Some n ≡ x
   unfolding number_from all_digits value_from
   number_end h p = rw (drop_of_length-le s h, le-leb n 65535 p) at inv
-
-pub ruleset numbers = (number_low, number_high, number_digit, number_large, number_end)
 
 -- The whole text; x is the number of its digits, leading zeros or not.
 pub read_none : (s : List ℕ) → length s ≡ 0 → None ≡ read_number s

@@ -9,9 +9,7 @@ use lib.Seq.{take_at}
 use native.Mathlib.Nat.{zero-add}
 use native.Mathlib.Omega.{arith}
 use borrow.Author.Tests.{lt-ltb, le-ltb}
-use Rattle.std.specs.declared.result.Result.{Result}
 use Rattle.std.specs.declared.result.Result.TheVariants.{Ok, Err}
-use Rattle.octets.specs.declared.Refusal.{Refusal}
 use Rattle.octets.specs.declared.Refusal.TheVariants.{BufferTooShort, OutOfRange}
 use Rattle.octets.specs.Puts.{put_answer, put_leaves, Puts}
 use Rattle.octets.specs.Append.{put, next_of, appended, Appends}

@@ -24,32 +24,10 @@ module _ (m : List ℕ) (sp : Span) where
   unfolding text_of
   text_cut h k = tail_is m sp.at ∙ sym (take_all sp.len (drop sp.at m) (omega (arith, length-drop sp.at m)))
 
-  pub text_whole : sp.at ≤ length m → take (sp.at + sp.len - sp.at) (drop sp.at m) ≡ text_of m sp
-  unfolding text_of
-  text_whole h = let k : sp.at + sp.len - sp.at ≡ sp.len = omega arith in rw k
-
-pub ruleset texts = (text_past, text_cut, text_whole)
-
 -- the span of all of s
 pub text_all : (s : List ℕ) (n : ℕ) → n ≡ length s → text_of s (record { at = 0; len = n }) ≡ s
 unfolding text_of
 text_all s n e = take_all n s (omega arith)
-
--- ---- fronts and ends
-module _ (s : List ℕ) (n : ℕ) where
-  pub after_past : length s < n → take 0 (drop 0 s) ≡ drop n s
-  after_past h = sym (drop_of_length-le s {i = n} (omega arith))
-
-  pub after_end : take (length s - n) (drop n s) ≡ drop n s
-  after_end = tail_is s n
-
-  pub up_to_all : length s < n → s ≡ take n s
-  up_to_all h = sym (take_all n s (omega arith))
-
-  pub up_to_front : take (n - 0) (drop 0 s) ≡ take n s
-  up_to_front = let z : n - 0 ≡ n = omega arith in rw z
-
-pub ruleset ends = (after_past, after_end, up_to_all, up_to_front)
 
 -- ---- spans that lie inside
 module _ (s : List ℕ) (p : Span) where

@@ -1,55 +1,46 @@
--- Laws of `begins` and `all_digits` at a position: the octet there and the rest decide, so each test of the code takes one octet off. And two texts that are the same are equal.
+-- What the kit's tests of texts say in the words of this crate. And two texts that are the same are equal.
 -- Assumes nothing.
-use Prim.Native.Nat.{ℕ, ◌+◌, ◌≤◌, ◌<◌}
-use mathlib.Core.Path.{◌≡◌, refl}
+use Prim.Native.Nat.{ℕ}
+use mathlib.Core.Path.{◌≡◌, refl, sym, ◌∙◌}
 use mathlib.Core.List.{List, [], ◌∷◌}
-use mathlib.Core.Bool.{Bool, true, false, and-eq-true_iff}
-use lib.ListN.{length, get_or, drop, drop_of_length-le}
-use lib.Dec.{eqb}
+use mathlib.Core.Bool.{true, false, and-false, and-eq-true_iff}
+use lib.ListN.{length, take}
+use lib.Dec.{eqb, eqb-suc-zero, eqb-zero-suc, eqb-suc-suc}
 use native.Mathlib.Omega.{arith}
-use borrow.Author.Tests.{le-leb, lt-leb, eq-eqb, ne_eqb, eqb-true}
+use borrow.Author.Tests.{eq-eqb, ne_eqb, eqb-true}
+use Rattle.std.specs.Cmp.Lexicographic.{pointwise}
+use Rattle.std.specs.List.{list_all}
 use Rattle.octets.specs.Decimal.{is_digit, all_digits}
 use Rattle.octets.specs.Words.{begins, same}
-use Rattle.octets.proofs.CaseLaws.{by_bool}
-use Rattle.octets.proofs.Laws.{next}
+use Rattle.octets.proofs.CaseLaws.{by_bool, by_eq}
 
-module _ (w s : List ℕ) (i : ℕ) (x : Bool) (inv : begins (drop i w) (drop i s) ≡ x) where
-  pub begins_short : i < length w → length s ≤ i → false ≡ x
-  unfolding begins
-  begins_short h k = rw (next w i h, drop_of_length-le s k) at inv
+eq_turned : (a b : ℕ) → eqb a b ≡ eqb b a
+eq_turned a b =
+    by_eq a b _
+    (λ e. eq-eqb a b e ∙ sym (eq-eqb b a (sym e)))
+    (λ e. ne_eqb a b e ∙ sym (ne_eqb b a (λ (z : b ≡ a). e (sym z))))
 
-  pub begins_other : i < length w → i < length s → (get_or s i 0 ≡ get_or w i 0 → ⊥) → false ≡ x
-  unfolding begins
-  begins_other h k e = rw (next w i h, next s i k, ne_eqb (get_or s i 0) (get_or w i 0) e) at inv
+-- what the kit's `starts_with` and `==` say of two texts
+pub begins_octets : (w s : List ℕ) → pointwise eqb w (take (length w) s) ≡ begins w s
+unfolding begins
+begins_octets [] s = refl
+begins_octets (x ∷ w) [] = refl
+begins_octets (x ∷ w) (b ∷ s) = rw (eq_turned x b, begins_octets w s)
 
-  pub begins_more : i < length w → i < length s → get_or s i 0 ≡ get_or w i 0 → begins (drop (i + 1) w) (drop (i + 1) s) ≡ x
-  unfolding begins
-  begins_more h k e = rw (next w i h, next s i k, eq-eqb (get_or s i 0) (get_or w i 0) e) at inv
+pub same_octets : (w s : List ℕ) → pointwise eqb s w ≡ same w s
+unfolding same begins
+same_octets [] [] = refl
+same_octets [] (b ∷ s) = rw eqb-suc-zero
+same_octets (x ∷ w) [] = rw eqb-zero-suc
+same_octets (x ∷ w) (b ∷ s) =
+    rw (same_octets w s, eqb-suc-suc)
+    (by_bool (eqb b x) _ (λ e. rw e) (λ e. rw (e, and-false (eqb (length s) (length w)))))
 
-  pub begins_all : length w ≤ i → true ≡ x
-  unfolding begins
-  begins_all h = rw (drop_of_length-le w h) at inv
-
-pub ruleset beginning = (begins_short, begins_other, begins_more, begins_all)
-
-module _ (s : List ℕ) (i : ℕ) (x : Bool) (inv : all_digits (drop i s) ≡ x) where
-  pub digits_low : i < length s → get_or s i 0 < 48 → false ≡ x
-  unfolding all_digits is_digit
-  digits_low h p = rw (next s i h, lt-leb 48 (get_or s i 0) p) at inv
-
-  pub digits_high : i < length s → 48 ≤ get_or s i 0 → 57 < get_or s i 0 → false ≡ x
-  unfolding all_digits is_digit
-  digits_high h q p = rw (next s i h, le-leb 48 (get_or s i 0) q, lt-leb (get_or s i 0) 57 p) at inv
-
-  pub digits_more : i < length s → 48 ≤ get_or s i 0 → get_or s i 0 ≤ 57 → all_digits (drop (i + 1) s) ≡ x
-  unfolding all_digits is_digit
-  digits_more h q p = rw (next s i h, le-leb 48 (get_or s i 0) q, le-leb (get_or s i 0) 57 p) at inv
-
-  pub digits_all : length s ≤ i → true ≡ x
-  unfolding all_digits
-  digits_all h = rw (drop_of_length-le s h) at inv
-
-pub ruleset digits = (digits_low, digits_high, digits_more, digits_all)
+-- a test of each octet
+pub digits_are : (s : List ℕ) → list_all (λ (b : ℕ). is_digit b) s ≡ all_digits s
+unfolding all_digits
+digits_are [] = refl
+digits_are (b ∷ s) = rw (digits_are s)
 
 -- ---- two texts that are the same are equal
 begins_is : (w s : List ℕ) → length s ≡ length w → begins w s ≡ true → w ≡ s

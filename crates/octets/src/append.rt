@@ -7,18 +7,6 @@ ghost use Rattle.octets.specs.Puts.{Puts};
 
 use crate::Refusal;
 
-// Puts src into out from `at` on.
-fn copy(src: &[u8], out: &mut [u8], at: usize)
-    requires { at + length src.now ≤ length out.old }
-    ensures { out.new ≡ put out.old at src.now }
-{
-    let mut j = 0;
-    while j < src.len() {
-        out[at + j] = src[j];
-        j += 1;
-    }
-}
-
 // Appends src to the `at` octets in out.
 pub fn push(src: &[u8], out: &mut [u8], at: usize) -> usize
     ensures { Appends out.old at src.now result out.new }
@@ -26,13 +14,9 @@ pub fn push(src: &[u8], out: &mut [u8], at: usize) -> usize
     if out.len() <= at {
         return at;
     }
-    let room = out.len() - at;
-    if room < src.len() {
-        copy(&src[0..room], out, at);
-        return at + room;
-    }
-    copy(src, out, at);
-    at + src.len()
+    let n = src.len().min(out.len() - at);
+    out[at..at + n].copy_from_slice(&src[..n]);
+    at + n
 }
 
 // Appends one octet.
@@ -52,14 +36,15 @@ fn put_digits(n: u64, d: &mut [u8]) -> usize
     ensures { Tail d.new result (number_text n) }
 {
     let mut m = n;
-    let mut k = 19;
-    while 0 < k && 9 < m {
+    for k in (1..20).rev() {
         d[k] = b'0' + (m % 10) as u8;
         m /= 10;
-        k -= 1;
+        if m == 0 {
+            return k;
+        }
     }
-    d[k] = b'0' + (m % 10) as u8;
-    k
+    d[0] = b'0' + (m % 10) as u8;
+    0
 }
 
 // Appends n as decimal text.

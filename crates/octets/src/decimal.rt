@@ -7,20 +7,14 @@ fn digits(s: &[u8]) -> Option<u16>
     ensures { result ≡ number_from 0 s.now }
 {
     let mut n: u32 = 0;
-    let mut i = 0;
-    while i < s.len() {
-        let b = s[i];
-        if b < b'0' {
+    for b in s {
+        if !b.is_ascii_digit() {
             return None;
         }
-        if b'9' < b {
-            return None;
-        }
-        n = n * 10 + (b - b'0') as u32;
+        n = n * 10 + (*b - b'0') as u32;
         if 65535 < n {
             return None;
         }
-        i += 1;
     }
     Some(n as u16)
 }

@@ -9,16 +9,12 @@ use crate::append;
 pub fn digit(b: u8) -> Option<u8>
     ensures { result ≡ digit_in b }
 {
-    if b'0' <= b && b <= b'9' {
-        return Some(b - b'0');
+    match b {
+        b'0'..=b'9' => Some(b - b'0'),
+        b'A'..=b'F' => Some(b - b'A' + 10),
+        b'a'..=b'f' => Some(b - b'a' + 10),
+        _ => None,
     }
-    if b'A' <= b && b <= b'F' {
-        return Some(b - b'A' + 10);
-    }
-    if b'a' <= b && b <= b'f' {
-        return Some(b - b'a' + 10);
-    }
-    None
 }
 
 // The digit that stands for d.
@@ -46,11 +42,9 @@ fn push_pair(b: u8, out: &mut [u8], at: usize) -> usize
 pub fn push_hex(src: &[u8], out: &mut [u8], at: usize) -> usize
     ensures { Appends out.old at (hex_text src.now) result out.new }
 {
-    let mut j = 0;
     let mut k = at;
-    while j < src.len() {
-        k = push_pair(src[j], out, k);
-        j += 1;
+    for b in src {
+        k = push_pair(*b, out, k);
     }
     k
 }

@@ -6,10 +6,7 @@ ghost use Rattle.octets.specs.Split.{find_at, Found, split_on, part_at, separato
 pub fn last_three(s: &[u8]) -> usize
     ensures { result ≡ length s.now - 3 }
 {
-    if s.len() < 3 {
-        return 0;
-    }
-    s.len() - 3
+    s.len().saturating_sub(3)
 }
 
 // A position from `from` on with no c of s in between, found four octets at a time.
@@ -40,14 +37,13 @@ fn pass_fours(s: &[u8], c: u8, from: usize) -> usize
 pub fn find_from(s: &[u8], c: u8, from: usize) -> usize
     ensures { Found s.now c from result }
 {
-    let mut i = pass_fours(s, c, from);
-    while i < s.len() {
+    let start = pass_fours(s, c, from);
+    for i in start..s.len() {
         if s[i] == c {
             return i;
         }
-        i += 1;
     }
-    i
+    start.max(s.len())
 }
 
 // Part k of s between its c's, from 0; an empty one if there is none.
@@ -55,15 +51,12 @@ pub fn part(s: &[u8], c: u8, k: usize) -> &[u8]
     ensures { result.now ≡ part_at k (split_on c s.now) }
 {
     let mut i = 0;
-    let mut left = k;
-    while 0 < left {
+    for _ in 0..k {
         let e = find_from(s, c, i);
         if s.len() <= e {
-            let z = s.len();
-            return &s[z..z];
+            return &s[..0];
         }
         i = e + 1;
-        left -= 1;
     }
     let e = find_from(s, c, i);
     &s[i..e]
@@ -73,15 +66,5 @@ pub fn part(s: &[u8], c: u8, k: usize) -> &[u8]
 pub fn separators(s: &[u8], c: u8) -> usize
     ensures { result ≡ separators_of c s.now }
 {
-    let mut i = 0;
-    let mut n = 0;
-    while i < s.len() {
-        if s[i] == c {
-            n += 1;
-            i += 1;
-            continue;
-        }
-        i += 1;
-    }
-    n
+    s.iter().filter(|b| **b == c).count()
 }

@@ -8,49 +8,26 @@ use crate::Span;
 pub fn text(m: &[u8], sp: Span) -> &[u8]
     ensures { result.now ≡ text_of m.now sp }
 {
-    let at = sp.at;
-    let len = sp.len;
-    if m.len() < at {
-        return &m[..0];
-    }
-    if m.len() - at < len {
-        return &m[at..];
-    }
-    let end = at + len;
-    &m[at..end]
+    up_to(after(m, sp.at), sp.len)
 }
 
 // What follows the first n octets of s.
 pub fn after(s: &[u8], n: usize) -> &[u8]
     ensures { result.now ≡ drop n s.now }
 {
-    if s.len() < n {
-        return &s[0..0];
-    }
-    &s[n..]
+    &s[n.min(s.len())..]
 }
 
 // The first n octets of s, or all of them if it has fewer.
 pub fn up_to(s: &[u8], n: usize) -> &[u8]
     ensures { result.now ≡ take n s.now }
 {
-    if s.len() < n {
-        return s;
-    }
-    &s[0..n]
+    &s[..n.min(s.len())]
 }
 
 // sp lies inside m.
 pub fn is_inside(m: &[u8], sp: Span) -> bool
     ensures { result ≡ inside m.now sp }
 {
-    let at = sp.at;
-    let len = sp.len;
-    if m.len() < at {
-        return false;
-    }
-    if m.len() - at < len {
-        return false;
-    }
-    true
+    sp.at <= m.len() && sp.len <= m.len() - sp.at
 }

@@ -5,14 +5,23 @@ use borrow.Author.Rules.{rules}
 use Rattle.octets.proofs.HexLaws.{digits, digit_none}
 use Rattle.octets.proofs.hex.digit.Goals as goal
 
-pub returns-then-b-le57 : goal.returns-then-b-le57
-returns-then-b-le57 c = search (digits, rules)
+pub returns-in-48-to-57 : goal.returns-in-48-to-57
+returns-in-48-to-57 c = search (digits, rules)
 
-pub returns-then-b-le70 : goal.returns-then-b-le70
-returns-then-b-le70 c = search (digits, rules)
+pub returns-in-65-to-70 : goal.returns-in-65-to-70
+returns-in-65-to-70 c = search (digits, rules)
 
-pub returns-then-b-le102 : goal.returns-then-b-le102
-returns-then-b-le102 c = search (digits, rules)
+pub returns-in-97-to-102 : goal.returns-in-97-to-102
+returns-in-97-to-102 c = search (digits, rules)
 
-pub returns : goal.returns
-returns c = digit_none _ (λ h. omega arith) (λ h. omega arith) (λ h. omega arith)
+pub returns-in_default : goal.returns-in_default
+returns-in_default c = digit_none _ (λ h. omega arith) (λ h. omega arith) (λ h. omega arith)
+
+pub returns-in_default-2 : goal.returns-in_default-2
+returns-in_default-2 c = digit_none _ (λ h. omega arith) (λ h. omega arith) (λ h. omega arith)
+
+pub returns-in_default-3 : goal.returns-in_default-3
+returns-in_default-3 c = digit_none _ (λ h. omega arith) (λ h. omega arith) (λ h. omega arith)
+
+pub returns-in_default-4 : goal.returns-in_default-4
+returns-in_default-4 c = digit_none _ (λ h. omega arith) (λ h. omega arith) (λ h. omega arith)

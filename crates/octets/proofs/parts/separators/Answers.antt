@@ -1,16 +1,13 @@
-use native.Mathlib.Nat.{zero-add}
+-- `parts::separators` meets its contract: it counts the separators.
+-- Assumes nothing.
+use Prim.Native.Nat.{ℕ}
+use mathlib.Core.Path.{◌≡◌, ◌∙◌, sym}
 use borrow.Author.Rules.{rules}
-use Rattle.octets.proofs.PartLaws.{counting}
+use Rattle.std.specs.Prelude.{count_by, nat_eq}
+use Rattle.octets.proofs.PartLaws.{separators_count}
 use Rattle.octets.proofs.parts.separators.Goals as goal
 
-pub loop-i-init : goal.loop-i-init
-loop-i-init c = (search rules, rw zero-add)
-
-pub loop-i-preserved-then-s-i : goal.loop-i-preserved-then-s-i
-loop-i-preserved-then-s-i c = search (counting, rules)
-
-pub loop-i-preserved : goal.loop-i-preserved
-loop-i-preserved c = search (counting, rules)
-
 pub returns : goal.returns
-returns c = search (counting, rules)
+returns c =
+    let e : c.count.result ≡ count_by (λ (b : ℕ). nat_eq b c.args.c) c.args.s.now = search rules in
+    e ∙ sym (separators_count c.args.c c.args.s.now)

@@ -1,15 +1,15 @@
+-- `words::all_digits` meets its contract: it tests each octet.
+-- Assumes nothing.
+use Prim.Native.Nat.{ℕ}
+use mathlib.Core.Path.{◌∙◌}
 use borrow.Author.Rules.{rules}
-use Rattle.octets.proofs.WordLaws.{digits}
+use Rattle.std.proofs.lemmas.Iterator.{YieldsList-from_slice}
+use Rattle.std.proofs.lemmas.Iterator.Search.{all_from_yields_List}
+use Rattle.octets.specs.Decimal.{is_digit}
+use Rattle.octets.proofs.WordLaws.{digits_are}
 use Rattle.octets.proofs.words.all_digits.Goals as goal
 
-pub returns-then-b-lt48 : goal.returns-then-b-lt48
-returns-then-b-lt48 c = search (digits, rules)
-
-pub returns-then-b-gt57 : goal.returns-then-b-gt57
-returns-then-b-gt57 c = search (digits, rules)
-
-pub loop-i-preserved : goal.loop-i-preserved
-loop-i-preserved c = search (digits, rules)
-
 pub returns : goal.returns
-returns c = search (digits, rules)
+returns c =
+    all_from_yields_List (λ (b : ℕ). is_digit b) c.all.new.self _ _ c.all.ensures.ran (YieldsList-from_slice c.args.s.now cc) (λ x b q k. search rules)
+    ∙ digits_are c.args.s.now

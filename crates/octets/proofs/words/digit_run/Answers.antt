@@ -5,10 +5,10 @@ use Rattle.octets.specs.Words.{digit_run}
 use Rattle.octets.proofs.Pick.{picks}
 use Rattle.octets.proofs.words.digit_run.Goals as goal
 
-pub returns-then-s-gt0 : goal.returns-then-s-gt0
+pub returns-then-not-is_empty : goal.returns-then-not-is_empty
 unfolding digit_run
-returns-then-s-gt0 c = search (picks, rules)
+returns-then-not-is_empty c = search (picks, rules)
 
-pub returns : goal.returns
+pub returns-else-not-is_empty : goal.returns-else-not-is_empty
 unfolding digit_run
-returns c = search (picks, rules)
+returns-else-not-is_empty c = search (picks, rules)

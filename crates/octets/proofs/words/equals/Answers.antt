@@ -1,14 +1,8 @@
--- `words::equals` meets its contract. The tests of the code are those of the definition.
+-- `words::equals` meets its contract: `==` compares two texts octet by octet.
 -- Assumes nothing.
-use borrow.Author.Rules.{rules}
-use Rattle.octets.specs.Words.{same}
-use Rattle.octets.proofs.Pick.{picks}
+use mathlib.Core.Path.{◌∙◌}
+use Rattle.octets.proofs.WordLaws.{same_octets}
 use Rattle.octets.proofs.words.equals.Goals as goal
 
-pub returns-then-s-w : goal.returns-then-s-w
-unfolding same
-returns-then-s-w c = search (picks, rules)
-
 pub returns : goal.returns
-unfolding same
-returns c = search (picks, rules)
+returns c = c.eq.ensures ∙ same_octets c.args.w.now c.args.s.now
