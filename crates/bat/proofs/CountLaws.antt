@@ -67,6 +67,11 @@ module _ (s : List ℕ) (x : Result (std.Option Frame) Unframed) (is : front_in 
     pub frame_some : 3 ≤ w
     frame_some = omega (arith, frame_length, front_whole s (element_in s f) (drop w s) frame_first)
 
+module _ (s : List ℕ) (x : Result (std.Option Frame) Unframed) (is : front_in s x ≡ some (front s)) (f : Frame) (e : x ≡ Ok (Some f)) (w : ℕ) (l : WholeLength f w) where
+  -- what follows an element is shorter
+  pub frame_shorter : (t : List ℕ) → t ≡ drop w s → length t < length s
+  frame_shorter t after = omega (arith, frame_inside s x is f e w l, frame_some s x is f e w l, ap (λ (z : List ℕ). length z) after, length-drop w s)
+
 -- an answer that is taken apart in two steps
 pub ok_is : {A E : Type 0} (x : Result (std.Option A) E) (v y : std.Option A) → x ≡ Ok v → v ≡ y → x ≡ Ok y
 ok_is x v y p q = p ∙ ap Ok q
@@ -104,28 +109,23 @@ module _ (s : List ℕ) (n : ℕ) (y : Result ℕ Refusal) (inv : counted n (ele
       rw after
       (sym (counted_more n (element_in s f) (elements (drop w s))) ∙ rw (elements_first s (element_in s f) (drop w s) (frame_first s x is f e w l)) at inv)
 
-  -- what follows is shorter
-  pub rest_shorter : (f : Frame) → x ≡ Ok (Some f) → (w : ℕ) → WholeLength f w → (t : List ℕ) → t ≡ drop w s → length t < length s
-  rest_shorter f e w l t after =
-      omega (arith, frame_inside s x is f e w l, frame_some s x is f e w l, ap (λ (z : List ℕ). length z) after, length-drop w s)
-
 -- ---- the places of the data that a loop over its elements goes through
 module _ (s : List ℕ) (at : ℕ) (t : List ℕ) (here : t ≡ drop at s) (x : Result (std.Option Frame) Unframed) (is : front_in t x ≡ some (front t)) (f : Frame) (e : x ≡ Ok (Some f)) (w : ℕ) (l : WholeLength f w) where
-  pub place_inside : at < length s → at + w ≤ length s
-  place_inside h = omega (arith, frame_inside t x is f e w l, ap (λ (z : List ℕ). length z) here, length-drop at s)
+  pub place_inside : at + w ≤ length s
+  place_inside = omega (arith, frame_inside t x is f e w l, frame_some t x is f e w l, ap (λ (z : List ℕ). length z) here, length-drop at s)
 
-  pub place_fits : at < length s → length s < 2 ^ 64 → Fits w64 (at + w)
-  place_fits h k = omega (arith, place_inside h)
+  pub place_fits : length s < 2 ^ 64 → Fits w64 (at + w)
+  place_fits k = omega (arith, place_inside)
 
   pub place_more : (n : ℕ) → n ≤ at → n + 1 ≤ at + w
   place_more n h = omega (arith, frame_some t x is f e w l)
 
-  pub place_falls : at < length s → length s - (at + w) < length s - at
-  place_falls h = omega (arith, frame_some t x is f e w l)
+  pub place_falls : length s - (at + w) < length s - at
+  place_falls = omega (arith, place_inside, frame_some t x is f e w l)
 
 pub ruleset places = (place_inside, place_fits, place_more, place_falls)
 
-pub ruleset counts = (count_ended, count_unframed, count_more, rest_shorter, ok_is)
+pub ruleset counts = (count_ended, count_unframed, count_more, frame_shorter, ok_is)
 
 -- ---- numbers 1, 2 and 3
 module _ (s : List ℕ) (entries : ℕ) where

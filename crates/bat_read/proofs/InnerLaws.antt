@@ -8,8 +8,8 @@ use mathlib.Core.Option.{Option, none, some, Option-elim}
 use lib.ListN.{length, take, drop, length-append}
 use lib.Dec.{leb, ltb, eqb}
 use native.Mathlib.Omega.{arith}
+use Rattle.std.specs.Prelude.{Some, None}
 use Rattle.codes.specs.Codes.{is_action}
-use Rattle.bat.specs.declared.Place.TheVariants.{Itself, Inner}
 use Rattle.bat.specs.Framing.{octet, unmarked, Element, header, whole, Front, front, first, unframed, ended, on_front}
 use Rattle.bat.specs.Values.{Diagnostic, InnerCodec, Value, action, backbone, address, codecs, single, report, characteristics, control, tunnelling, control_unit, capability, indicators, signal_type, duration, signal, untimed, Decoding, decoded, unrecognised, wrong, bit1, right_single, single_codec, right_indicators, right_type, sixteen_bits, Codecs, all_codecs, offence, with_single, on_codecs, codec_then, codecs_in, is_single, inner_codec, action_in, backbone_in, address_in, single_in, diagnostics_in, report_in, characteristics_in, control_in, tunnelling_in, unit_in, capability_in, indicators_in, type_in, duration_in, codec_list_in, InnerType, inner_type, inner_duration, is_type, is_duration, last_by, timed_by, signal_by, signal_in, decoding}
 use Rattle.bat.specs.Judging.{index_by, Judgement, judgement, unknown, finding_by, finding}
@@ -19,8 +19,8 @@ use Rattle.bat_read.proofs.ConstructorLaws.{codecs_at}
 -- the distance of the inner element at fault, 0 where there is none
 unfoldable pub inner_of : Decoding → ℕ
 inner_of (decoded v) = 0
-inner_of (unrecognised Itself) = 0
-inner_of (unrecognised (Inner d)) = d
+inner_of (unrecognised None) = 0
+inner_of (unrecognised (Some d)) = d
 
 -- ---- a simple element has no inner ones
 inner_cond : (b : Bool) (x y : Decoding) (n : ℕ) → inner_of x ≤ n → inner_of y ≤ n → inner_of (cond b x y) ≤ n
@@ -72,34 +72,34 @@ offence_inside =
     let n = front_length s e t q in
     offence_then (is_single e) e d x (codecs_at (d + length (whole e)) t) (d + length s) refl (omega arith) (λ r. omega (arith, ih (d + length (whole e)) x r)) (sym w ∙ p))
 
-inner_on : (s : List ℕ) (x : Codecs) → codecs_in s ≡ x → inner_of (on_codecs x (λ cs. decoded (codecs cs)) (λ d. unrecognised (Inner d))) ≤ length s
+inner_on : (s : List ℕ) (x : Codecs) → codecs_in s ≡ x → inner_of (on_codecs x (λ cs. decoded (codecs cs)) (λ d. unrecognised (Some d))) ≤ length s
 unfolding inner_of on_codecs codecs_in
 inner_on s (all_codecs cs) e = omega arith
 inner_on s (offence x) e = omega (arith, offence_inside s 0 x e)
 
 inner_codecs : (s : List ℕ) → inner_of (codec_list_in s) ≤ length s
 unfolding inner_of codec_list_in
-inner_codecs s = inner_cond (eqb (length s) 0) wrong (on_codecs (codecs_in s) (λ cs. decoded (codecs cs)) (λ d. unrecognised (Inner d))) (length s) (omega arith) (inner_on s (codecs_in s) refl)
+inner_codecs s = inner_cond (eqb (length s) 0) wrong (on_codecs (codecs_in s) (λ cs. decoded (codecs cs)) (λ d. unrecognised (Some d))) (length s) (omega arith) (inner_on s (codecs_in s) refl)
 
 -- ---- a signal
 module _ (k : InnerType) where
   inner_last : (d n : ℕ) (e : Element) (t : List ℕ) → d + length (whole e) ≤ n → inner_of (last_by k d e t) ≤ n
   unfolding inner_of last_by
   inner_last d n e t h =
-      let far = unrecognised (Inner (d + length (whole e))) in
+      let far = unrecognised (Some (d + length (whole e))) in
       let last = decoded (signal k (inner_duration e)) in
-      inner_cond (is_duration e) (cond (eqb (length t) 0) last far) (unrecognised (Inner d)) n (inner_cond (eqb (length t) 0) last far n (omega arith) h) (omega arith)
+      inner_cond (is_duration e) (cond (eqb (length t) 0) last far) (unrecognised (Some d)) n (inner_cond (eqb (length t) 0) last far n (omega arith) h) (omega arith)
 
-  inner_timed : (d : ℕ) (t : List ℕ) (f : Front) → front t ≡ f → inner_of (on_front f (last_by k d) (unrecognised (Inner d)) (decoded (signal k untimed))) ≤ d + length t
+  inner_timed : (d : ℕ) (t : List ℕ) (f : Front) → front t ≡ f → inner_of (on_front f (last_by k d) (unrecognised (Some d)) (decoded (signal k untimed))) ≤ d + length t
   unfolding inner_of on_front
   inner_timed d t (first e u) q = inner_last d (d + length t) e u (omega (arith, front_length t e u q))
   inner_timed d t unframed q = omega arith
   inner_timed d t ended q = omega arith
 
-inner_signal : (s : List ℕ) (f : Front) → front s ≡ f → inner_of (on_front f signal_by (unrecognised (Inner 0)) wrong) ≤ length s
+inner_signal : (s : List ℕ) (f : Front) → front s ≡ f → inner_of (on_front f signal_by (unrecognised (Some 0)) wrong) ≤ length s
 unfolding inner_of on_front signal_by timed_by
 inner_signal s (first e t) q =
-    inner_cond (is_type e) (timed_by (inner_type e) (length (whole e)) t) (unrecognised (Inner 0)) (length s)
+    inner_cond (is_type e) (timed_by (inner_type e) (length (whole e)) t) (unrecognised (Some 0)) (length s)
     (let n = front_length s e t q in omega (arith, inner_timed (inner_type e) (length (whole e)) t (front t) refl)) (omega arith)
 inner_signal s unframed q = omega arith
 inner_signal s ended q = omega arith
@@ -146,11 +146,11 @@ inner_inside i s =
 index_in_lem : (pass : Bool) (e : Element) (x : Decoding) → decoding e.identifier e.contents ≡ x → (j : Judgement) → finding_by pass e x ≡ unknown j → j.diagnostic.index ≤ length (whole e)
 unfolding finding_by judgement index_by inner_of whole
 index_in_lem pass e (decoded v) q j p = absurd (let z : ◌≡◌ {A = ℕ} 0 1 = cc in omega arith)
-index_in_lem pass e (unrecognised Itself) q j p =
+index_in_lem pass e (unrecognised None) q j p =
     let z : judgement pass e.identifier e.compatibility 0 ≡ j = cc in
     let i : 0 ≡ j.diagnostic.index = ap (λ (k : Judgement). k.diagnostic.index) z in
     omega arith
-index_in_lem pass e (unrecognised (Inner d)) q j p =
+index_in_lem pass e (unrecognised (Some d)) q j p =
     let z : judgement pass e.identifier e.compatibility (length (header e) + d) ≡ j = cc in
     let i : length (header e) + d ≡ j.diagnostic.index = ap (λ (k : Judgement). k.diagnostic.index) z in
     let l : d ≤ length e.contents = rw q at (inner_inside e.identifier e.contents) in

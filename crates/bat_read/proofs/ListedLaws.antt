@@ -1,17 +1,17 @@
 -- The listed diagnostics of the data are found one after the other, each after the element before it.
 -- Assumes nothing.
-use Prim.Native.Nat.{ℕ, ◌+◌, ◌≤◌}
+use Prim.Native.Nat.{ℕ, ◌+◌}
 use mathlib.Core.Path.{◌≡◌, refl, sym, ap, ◌∙◌}
 use mathlib.Core.List.{List, [], ◌∷◌, map}
 use mathlib.Core.Bool.{Bool, true, false, cond}
 use mathlib.Core.Option
 use mathlib.Core.Option.{Option, none, some}
-use lib.ListN.{length, drop, drop_of_length-le}
+use lib.ListN.{length, drop}
 use lib.Seq.{drop-drop}
 use native.Mathlib.Omega.{arith}
+use Rattle.std.specs.Prelude as std
+use Rattle.std.specs.Prelude.{Result, Ok, Err, Some, None}
 use Rattle.octets.proofs.CaseLaws.{by_bool}
-use Rattle.bat.specs.declared.Frame.{Frame}
-use Rattle.bat.specs.declared.Framed.TheVariants.{Whole}
 use Rattle.bat.specs.declared.Judged.{Judged}
 use Rattle.bat_read.specs.Code as code
 use Rattle.bat.specs.Framing.{Element, whole, front, first, unframed, ended, elements}
@@ -21,28 +21,25 @@ use Rattle.bat.specs.FramingMeaning.{element_in, WholeLength}
 use Rattle.bat.specs.ValueMeaning.{value_in}
 use Rattle.bat.specs.JudgingMeaning.{diagnostic_in, judgement_in, finding_in}
 use Rattle.bat.proofs.WalkLaws.{front_nil, walk_ended, walk_unframed, walk_first, by_front}
-use Rattle.bat.proofs.CountLaws.{frame_length}
+use Rattle.bat.proofs.CountLaws.{frame_length, ok_is}
 use Rattle.bat.proofs.DataLaws.{elements_ended, elements_unframed, elements_first}
 use Rattle.bat_read.specs.declared.Examined.{Examined}
-use Rattle.bat_read.specs.declared.Own.{Own}
-use Rattle.bat_read.specs.declared.Own.TheVariants.{Lists, ListsNone}
-use Rattle.bat_read.specs.declared.Listed.TheVariants.{Next, NoneLeft}
 use Rattle.bat_read.specs.Examining.{examine, examined_in, Listing, listing_with, listings, listings_in}
 use Rattle.bat_read.specs.Private.{own_in, own_of}
-use Rattle.bat_read.proofs.OutcomeLaws.{seen, seen_front, seen_ended, seen_unframed}
+use Rattle.bat_read.proofs.OutcomeLaws.{seen, seen_front, seen_first, seen_ended, seen_unframed}
 
 -- ---- what one element lists
 module _ (v : code.Finding) (n : ℕ) (ls : List Listing) where
-  pub own_known : (w : code.Value) → v ≡ code.Recognised w → own_in ListsNone n ls ≡ own_of v n ls
+  pub own_known : (w : code.Value) → v ≡ Ok w → own_in None n ls ≡ own_of v n ls
   unfolding own_in own_of
   own_known w e = rw e
 
-  module _ (j : Judged) (e : v ≡ code.Unknown j) (b : Bool) (is : b ≡ is_listed (judgement_in j)) where
-    pub own_lists : b ≡ true → own_in (Lists j.diagnostic) n ls ≡ own_of v n ls
+  module _ (j : Judged) (e : v ≡ Err j) (b : Bool) (is : b ≡ is_listed (judgement_in j)) where
+    pub own_lists : b ≡ true → own_in (Some j.diagnostic) n ls ≡ own_of v n ls
     unfolding own_in own_of
     own_lists h = let y : is_listed (judgement_in j) ≡ true = sym is ∙ h in rw (e, y)
 
-    pub own_none : b ≡ false → own_in ListsNone n ls ≡ own_of v n ls
+    pub own_none : b ≡ false → own_in None n ls ≡ own_of v n ls
     unfolding own_in own_of
     own_none h = let k : is_listed (judgement_in j) ≡ false = sym is ∙ h in rw (e, k)
 
@@ -60,8 +57,8 @@ own_judged j n ls = refl
 
 own_is : (s : List ℕ) (v : code.Finding) (w : Finding) (n : ℕ) (ls : List Listing) → finding_in s v ≡ some w → own_of v n ls ≡ listing_with w n ls
 unfolding finding_in own_of
-own_is s (code.Recognised x) w n ls p = own_value (value_in s x) w n ls p
-own_is s (code.Unknown j) w n ls p = let q : unknown (judgement_in j) ≡ w = cc in rw (← q) (own_judged j n ls)
+own_is s (Ok x) w n ls p = own_value (value_in s x) w n ls p
+own_is s (Err j) w n ls p = let q : unknown (judgement_in j) ≡ w = cc in rw (← q) (own_judged j n ls)
 
 -- ---- from one element of the data to the next
 module _ (pass : Bool) where
@@ -78,46 +75,40 @@ module _ (pass : Bool) where
   unfolding listings
   listings_unframed d s q = walk_unframed (λ e d ls. listing_with (finding pass e) (d + length (whole e)) ls) (λ d. []) [] d s q
 
-  -- at the place `at` of the data; y are the listings from there on
-  module _ (s : List ℕ) (at : ℕ) (y : List Listing) (inv : listings pass at (drop at s) ≡ y) where
-    pub list_end : length s ≤ at → listings_in pass s NoneLeft ≡ y
+  -- at the place `at` of the data; z are the listings from there on
+  module _ (s : List ℕ) (at : ℕ) (z : List Listing) (inv : listings pass at (drop at s) ≡ z) (t : List ℕ) (here : t ≡ drop at s) (x : Result (std.Option Examined) code.Unframed) (is : examined_in t x ≡ some (examine pass t)) where
+    here_is : listings pass at t ≡ z
+    here_is = rw (← here) at inv
+
+    pub list_ended : x ≡ Ok None → listings_in pass s None ≡ z
     unfolding listings_in
-    list_end h =
-        let z : listings pass at [] ≡ y = rw (drop_of_length-le s {i = at} h) at inv in
-        sym (listings_ended at [] front_nil) ∙ z
+    list_ended e = sym (listings_ended at t (seen_ended pass t x is e)) ∙ here_is
 
-    module _ (t : List ℕ) (here : t ≡ drop at s) (x : Examined) (is : examined_in t x ≡ some (examine pass t)) where
-      here_is : listings pass at t ≡ y
-      here_is = rw (← here) at inv
+    pub list_unframed : (u : code.Unframed) → x ≡ Err u → listings_in pass s None ≡ z
+    unfolding listings_in
+    list_unframed u e = sym (listings_unframed at t (seen_unframed pass t x is u e)) ∙ here_is
 
-      pub list_ended : x ≡ code.Ended → listings_in pass s NoneLeft ≡ y
-      unfolding listings_in
-      list_ended e = sym (listings_ended at t (seen_ended pass t x is e)) ∙ here_is
+    module _ (y : Examined) (e : x ≡ Ok (Some y)) (w : ℕ) (l : WholeLength y.frame w) (o : std.Option code.Diagnostic) (own : (n : ℕ) (ls : List Listing) → own_in o n ls ≡ own_of y.finding n ls) where
+      list_with : own_in o (at + w) (listings pass (at + w) (drop (at + w) s)) ≡ z
+      list_with =
+          let k = seen pass t x is y e in
+          let f = y.frame in
+          let rest = listings pass (at + w) (drop w t) in
+          let next : front t ≡ first (element_in t f) (drop w t) = seen_first pass t x is y e w l in
+          let size : at + length (whole (element_in t f)) ≡ at + w = omega (arith, frame_length t (Ok (Some f)) (seen_front pass t x is y e) f refl w l) in
+          let one : listings pass at t ≡ listing_with (finding pass (element_in t f)) (at + w) rest = rw size at (listings_first at t (element_in t f) (drop w t) next) in
+          rw (← drop-drop w at s, ← here)
+          (own (at + w) rest ∙ own_is (element_in t f).contents y.finding (finding pass (element_in t f)) (at + w) rest k.2 ∙ sym one ∙ here_is)
 
-      pub list_unframed : x ≡ code.Unframed → listings_in pass s NoneLeft ≡ y
-      unfolding listings_in
-      list_unframed e = sym (listings_unframed at t (seen_unframed pass t x is e)) ∙ here_is
+      pub list_next : (d : code.Diagnostic) → o ≡ Some d → listings_in pass s (Some (record { diagnostic = d; next = at + w })) ≡ z
+      unfolding listings_in own_in
+      list_next d q = rw q at list_with
 
-      module _ (f : Frame) (v : code.Finding) (e : x ≡ code.Element f v) (w : ℕ) (l : WholeLength f w) (o : Own) (own : (n : ℕ) (ls : List Listing) → own_in o n ls ≡ own_of v n ls) where
-        list_with : own_in o (at + w) (listings pass (at + w) (drop (at + w) s)) ≡ y
-        list_with =
-            let k = seen pass t x is f v e in
-            let rest = listings pass (at + w) (drop w t) in
-            let next : front t ≡ first (element_in t f) (drop w t) = k.1 ∙ rw l.is in
-            let size : at + length (whole (element_in t f)) ≡ at + w = omega (arith, frame_length t (Whole f) (seen_front pass t x is f v e) f refl w l) in
-            let one : listings pass at t ≡ listing_with (finding pass (element_in t f)) (at + w) rest = rw size at (listings_first at t (element_in t f) (drop w t) next) in
-            rw (← drop-drop w at s, ← here)
-            (own (at + w) rest ∙ own_is (element_in t f).contents v (finding pass (element_in t f)) (at + w) rest k.2 ∙ sym one ∙ here_is)
+      pub list_more : o ≡ None → listings pass (at + w) (drop (at + w) s) ≡ z
+      unfolding own_in
+      list_more q = rw q at list_with
 
-        pub list_next : (d : code.Diagnostic) → o ≡ Lists d → listings_in pass s (Next d (at + w)) ≡ y
-        unfolding listings_in own_in
-        list_next d q = rw q at list_with
-
-        pub list_more : o ≡ ListsNone → listings pass (at + w) (drop (at + w) s) ≡ y
-        unfolding own_in
-        list_more q = rw q at list_with
-
-pub ruleset list_finds = (list_end, list_ended, list_unframed)
+pub ruleset list_finds = (list_ended, list_unframed, ok_is)
 
 -- ---- of data that can be framed they have the diagnostics that document 01 lists
 listing_diagnostic : (w : Finding) (n : ℕ) (ls : List Listing) → map (λ (l : Listing). l.diagnostic) (listing_with w n ls) ≡ listed_with w (map (λ (l : Listing). l.diagnostic) ls)

@@ -6,23 +6,21 @@ use mathlib.Core.List.{List, [], ◌∷◌, map}
 use mathlib.Core.Bool.{Bool, true, false, ◌||◌, cond}
 use mathlib.Core.Option
 use mathlib.Core.Option.{Option, none, some}
-use lib.ListN.{length, drop, length-map, drop_of_length-le}
-use lib.Seq.{drop-drop}
+use lib.ListN.{length, drop, length-map}
 use mir.Syntax.{w64}
 use mir.Val.{Fits}
 use native.Mathlib.Omega.{arith}
 use borrow.Author.Tests.{le-leb, lt-leb}
+use Rattle.std.specs.Prelude as std
+use Rattle.std.specs.Prelude.{Result, Ok, Err, Some, None}
 use Rattle.octets.proofs.CaseLaws.{by_le}
+use Rattle.octets.specs.declared.Refusal.{Refusal}
 use Rattle.bat.specs.declared.Frame.{Frame}
-use Rattle.bat.specs.declared.Framed.TheVariants.{Whole}
-use Rattle.bat.specs.declared.Counted.{Counted}
-use Rattle.bat.specs.declared.Counted.TheVariants.{Elements, Refused}
 use Rattle.bat.specs.declared.Outcome.TheVariants.{PassOn, DiscardElement, DiscardData, Release}
 use Rattle.bat.specs.declared.Judged.{Judged}
 use Rattle.bat_read.specs.Code as code
 use Rattle.bat.specs.declared.DataOutcome.{DataOutcome}
 use Rattle.bat.specs.declared.DataOutcome.TheVariants.{Neither, DiscardAll, ReleaseAll}
-use Rattle.bat.specs.declared.DataAnswer.TheVariants as answer
 use Rattle.bat.specs.Framing.{Element, Front, front, first, unframed, ended, on_front, elements, Cut, refused, taken, cut}
 use Rattle.bat.specs.Values.{Value}
 use Rattle.bat.specs.Judging.{Finding, known, unknown, finding, says, some_says, data_outcome, judged_by, judged_data}
@@ -31,17 +29,17 @@ use Rattle.bat.specs.ValueMeaning.{value_in}
 use Rattle.bat.specs.JudgingMeaning.{outcome_number, judgement_in, finding_in, data_number, told_by, told_of}
 use Rattle.bat.proofs.WalkLaws.{front_nil, fold_ended, fold_unframed, fold_first, by_front}
 use Rattle.bat.proofs.DataLaws.{elements_ended, elements_unframed, elements_first, taken_is}
-use Rattle.bat.proofs.CountLaws.{place_fits, place_falls}
+use Rattle.bat.proofs.CountLaws.{place_fits, place_falls, frame_shorter, ok_is}
 use Rattle.bat_read.specs.declared.Examined.{Examined}
 use Rattle.bat_read.specs.Examining.{element, no_frame, no_more, examine, examined_in}
 use Rattle.bat_read.specs.Private.{data_asked, data_asked_in, data_asked_by, gravest}
 
 -- ---- what one element asks
-pub asks_known : (v : code.Finding) (w : code.Value) → v ≡ code.Recognised w → data_number Neither ≡ data_asked_in v
+pub asks_known : (v : code.Finding) (w : code.Value) → v ≡ Ok w → data_number Neither ≡ data_asked_in v
 unfolding data_number data_asked_in
 asks_known v w e = rw e
 
-module _ (v : code.Finding) (j : Judged) (e : v ≡ code.Unknown j) where
+module _ (v : code.Finding) (j : Judged) (e : v ≡ Err j) where
   pub asks_pass : j.outcome ≡ PassOn → data_number Neither ≡ data_asked_in v
   unfolding data_number data_asked_in outcome_number
   asks_pass o = rw (e, o)
@@ -72,8 +70,8 @@ unknown_asks j = refl
 
 asked_is : (s : List ℕ) (v : code.Finding) (w : Finding) → finding_in s v ≡ some w → data_asked_in v ≡ data_asked_by w
 unfolding finding_in data_asked_in
-asked_is s (code.Recognised x) w p = known_asks (value_in s x) w p
-asked_is s (code.Unknown j) w p = let q : unknown (judgement_in j) ≡ w = cc in rw (← q) (unknown_asks j)
+asked_is s (Ok x) w p = known_asks (value_in s x) w p
+asked_is s (Err j) w p = let q : unknown (judgement_in j) ≡ w = cc in rw (← q) (unknown_asks j)
 
 -- ---- the graver of two
 most : (a : DataOutcome) → data_number a ≤ 3
@@ -193,85 +191,81 @@ module _ (pass : Bool) where
       let (g, h) = on_element (front t) (element_in t f) w (drop (whole_length f) t) k in
       (g, q ∙ rw h)
 
-  module _ (t : List ℕ) (x : Examined) (is : examined_in t x ≡ some (examine pass t)) where
-    pub seen_ended : x ≡ code.Ended → front t ≡ ended
+  module _ (t : List ℕ) (x : Result (std.Option Examined) code.Unframed) (is : examined_in t x ≡ some (examine pass t)) where
+    pub seen_ended : x ≡ Ok None → front t ≡ ended
     unfolding examined_in examine
     seen_ended e = let p : some no_more ≡ some (examine pass t) = rw e at is in on_ended (front t) (cc)
 
-    pub seen_unframed : x ≡ code.Unframed → front t ≡ unframed
+    pub seen_unframed : (u : code.Unframed) → x ≡ Err u → front t ≡ unframed
     unfolding examined_in examine
-    seen_unframed e = let p : some no_frame ≡ some (examine pass t) = rw e at is in on_unframed (front t) (cc)
+    seen_unframed u e = let p : some no_frame ≡ some (examine pass t) = rw e at is in on_unframed (front t) (cc)
 
-    module _ (f : Frame) (v : code.Finding) (e : x ≡ code.Element f v) where
-      pub seen : (whole_length f ≤ length t) × (front t ≡ first (element_in t f) (drop (whole_length f) t)) × (finding_in (element_in t f).contents v ≡ some (finding pass (element_in t f)))
+    module _ (y : Examined) (e : x ≡ Ok (Some y)) where
+      pub seen : (whole_length y.frame ≤ length t) × (front t ≡ first (element_in t y.frame) (drop (whole_length y.frame) t)) × (finding_in (element_in t y.frame).contents y.finding ≡ some (finding pass (element_in t y.frame)))
       unfolding examined_in
       seen =
+          let f = y.frame in
           let p = rw e at is in
           by_le (whole_length f) (length t) _
-          (λ h. let (a, b) = seen_by t f v (finding_in (element_in t f).contents v) refl (rw (le-leb (whole_length f) (length t) h) at p) in (h, a, b))
+          (λ h. let (a, b) = seen_by t f y.finding (finding_in (element_in t f).contents y.finding) refl (rw (le-leb (whole_length f) (length t) h) at p) in (h, a, b))
           (λ h. let q : none ≡ some (examine pass t) = rw (lt-leb (whole_length f) (length t) h) at p in absurd (let z : ◌≡◌ {A = ℕ} 0 1 = cc in omega arith))
 
-      pub seen_front : front_in t (Whole f) ≡ some (front t)
+      pub seen_front : front_in t (Ok (Some y.frame)) ≡ some (front t)
       unfolding front_in
-      seen_front = rw (le-leb (whole_length f) (length t) seen.0, seen.1)
+      seen_front = rw (le-leb (whole_length y.frame) (length t) seen.0, seen.1)
 
-  -- ---- from one element of the data to the next
-  module _ (s : List ℕ) (at : ℕ) (t : List ℕ) (here : t ≡ drop at s) (x : Examined) (is : examined_in t x ≡ some (examine pass t)) (f : Frame) (v : code.Finding) (e : x ≡ code.Element f v) (w : ℕ) (l : WholeLength f w) where
-    pub seen_fits : at < length s → length s < 2 ^ 64 → Fits w64 (at + w)
-    seen_fits h k = place_fits s at t here (Whole f) (seen_front t x is f v e) f refl w l h k
+      module _ (w : ℕ) (l : WholeLength y.frame w) where
+        pub seen_first : front t ≡ first (element_in t y.frame) (drop w t)
+        seen_first = seen.1 ∙ rw l.is
 
-    pub seen_falls : at < length s → length s - (at + w) < length s - at
-    seen_falls h = place_falls s at t here (Whole f) (seen_front t x is f v e) f refl w l h
+        -- from one element of the data to the next
+        pub seen_fits : (s : List ℕ) (at : ℕ) → t ≡ drop at s → length s < 2 ^ 64 → Fits w64 (at + w)
+        seen_fits s at here k = place_fits s at t here (Ok (Some y.frame)) seen_front y.frame refl w l k
 
-  -- at the place `at` of the data, where those before it come to n; y is what all come to
-  module _ (s : List ℕ) (n at y : ℕ) (inv : max n (gravest pass (drop at s)) ≡ y) where
-    pub outcome_end : length s ≤ at → n ≡ y
-    outcome_end h =
-        let z : max n (gravest pass []) ≡ y = rw (drop_of_length-le s {i = at} h) at inv in
-        omega (arith, gravest_ended pass [] front_nil)
+        pub seen_falls : (s : List ℕ) (at : ℕ) → t ≡ drop at s → length s - (at + w) < length s - at
+        seen_falls s at here = place_falls s at t here (Ok (Some y.frame)) seen_front y.frame refl w l
 
-    module _ (t : List ℕ) (here : t ≡ drop at s) (x : Examined) (is : examined_in t x ≡ some (examine pass t)) where
-      here_is : max n (gravest pass t) ≡ y
-      here_is = rw (← here) at inv
+        pub seen_shorter : (r : List ℕ) → r ≡ drop w t → length r < length t
+        seen_shorter r after = frame_shorter t (Ok (Some y.frame)) seen_front y.frame refl w l r after
 
-      pub outcome_ended : x ≡ code.Ended → n ≡ y
-      outcome_ended e = omega (arith, here_is, gravest_ended pass t (seen_ended t x is e))
+    -- those before t come to n, and all to m
+    module _ (n m : ℕ) (inv : max n (gravest pass t) ≡ m) where
+      pub outcome_ended : x ≡ Ok None → n ≡ m
+      outcome_ended e = omega (arith, gravest_ended pass t (seen_ended e))
 
-      pub outcome_unframed : x ≡ code.Unframed → n ≡ y
-      outcome_unframed e = omega (arith, here_is, gravest_unframed pass t (seen_unframed t x is e))
+      pub outcome_unframed : (u : code.Unframed) → x ≡ Err u → n ≡ m
+      outcome_unframed u e = omega (arith, gravest_unframed pass t (seen_unframed u e))
 
-      module _ (f : Frame) (v : code.Finding) (e : x ≡ code.Element f v) (w : ℕ) (l : WholeLength f w) where
-        pub outcome_more : (a m : ℕ) → a ≡ data_asked_in v → m ≡ max n a → max m (gravest pass (drop (at + w) s)) ≡ y
-        outcome_more a m k q =
-            let next : front t ≡ first (element_in t f) (drop w t) = (seen t x is f v e).1 ∙ rw l.is in
-            let g = gravest_first pass t (element_in t f) (drop w t) next in
-            let b : a ≡ data_asked_by (finding pass (element_in t f)) = k ∙ asked_is (element_in t f).contents v (finding pass (element_in t f)) (seen t x is f v e).2 in
-            rw (← drop-drop w at s, ← here) (omega (arith, here_is, g, b, q))
+      pub outcome_more : (y : Examined) (e : x ≡ Ok (Some y)) (w : ℕ) (l : WholeLength y.frame w) (a k : ℕ) → a ≡ data_asked_in y.finding → k ≡ max n a → (r : List ℕ) → r ≡ drop w t → max k (gravest pass r) ≡ m
+      outcome_more y e w l a k p q r after =
+          let g = gravest_first pass t (element_in t y.frame) (drop w t) (seen_first y e w l) in
+          let b : a ≡ data_asked_by (finding pass (element_in t y.frame)) = p ∙ asked_is (element_in t y.frame).contents y.finding (finding pass (element_in t y.frame)) (seen y e).2 in
+          rw after (omega (arith, inv, g, b, q))
 
-pub ruleset outcomes = (outcome_end, outcome_ended, outcome_unframed, outcome_more)
+pub ruleset outcomes = (outcome_ended, outcome_unframed, outcome_more, seen_shorter, ok_is)
 
 -- ---- the answer to the data
-module _ (s : List ℕ) (entries : ℕ) (pass : Bool) (y : Counted) (is : y ≡ count_of (cut entries s)) where
+module _ (s : List ℕ) (entries : ℕ) (pass : Bool) (y : Result ℕ Refusal) (is : y ≡ count_of (cut entries s)) where
   told_by_lem : (x : Cut) → cut entries s ≡ x → told_of (judged_data pass entries s) ≡ told_of (judged_by pass x)
   unfolding judged_data
   told_by_lem x e = rw e
 
-  pub told_refused : (n : ℕ) → y ≡ Refused n → told_by (answer.Refused n) ≡ told_of (judged_data pass entries s)
+  pub told_refused : (n : Refusal) → y ≡ Err n → told_by (Err n) ≡ told_of (judged_data pass entries s)
   unfolding told_by told_of judged_by count_of
   told_refused n e = go (cut entries s) refl
     where
-      go : (x : Cut) → cut entries s ≡ x → told_by (answer.Refused n) ≡ told_of (judged_data pass entries s)
-      go (refused m) q = let k : y ≡ Refused m = rw q at is in let z : n ≡ m = cc in rw z (sym (told_by_lem (refused m) q))
-      go (taken es) q = let k : y ≡ Elements (length es) = rw q at is in absurd (let z : ◌≡◌ {A = ℕ} 0 1 = cc in omega arith)
+      go : (x : Cut) → cut entries s ≡ x → told_by (Err n) ≡ told_of (judged_data pass entries s)
+      go (refused m) q = let k : y ≡ Err m = rw q at is in let z : n ≡ m = cc in rw z (sym (told_by_lem (refused m) q))
+      go (taken es) q = let k : y ≡ Ok (length es) = rw q at is in absurd (let z : ◌≡◌ {A = ℕ} 0 1 = cc in omega arith)
 
-  pub told_taken_lem : (n : ℕ) (o : DataOutcome) → y ≡ Elements n → data_number o ≡ gravest pass s → told_by (answer.Taken n o) ≡ told_of (judged_data pass entries s)
+  pub told_taken_lem : (n : ℕ) (o : DataOutcome) → y ≡ Ok n → data_number o ≡ gravest pass s → told_by (Ok (record { count = n; outcome = o })) ≡ told_of (judged_data pass entries s)
   unfolding told_by told_of judged_by count_of
   told_taken_lem n o e g = go (cut entries s) refl
     where
-      go : (x : Cut) → cut entries s ≡ x → told_by (answer.Taken n o) ≡ told_of (judged_data pass entries s)
-      go (refused m) q = let k : y ≡ Refused m = rw q at is in absurd (let z : ◌≡◌ {A = ℕ} 0 1 = cc in omega arith)
+      go : (x : Cut) → cut entries s ≡ x → told_by (Ok (record { count = n; outcome = o })) ≡ told_of (judged_data pass entries s)
+      go (refused m) q = let k : y ≡ Err m = rw q at is in absurd (let z : ◌≡◌ {A = ℕ} 0 1 = cc in omega arith)
       go (taken es) q =
-          let k : y ≡ Elements (length es) = rw q at is in
+          let k : y ≡ Ok (length es) = rw q at is in
           let z : n ≡ length es = cc in
           let a : data_number o ≡ data_outcome (map (finding pass) es) = g ∙ gravest_outcome pass s es (taken_is entries s es q).are in
           rw (z, a, ← length-map es (finding pass)) (sym (told_by_lem (taken es) q))

@@ -5,8 +5,7 @@ use mathlib.Core.Path.{◌≡◌}
 use mathlib.Core.List.{List}
 use mathlib.Core.Option.{Option, some}
 use borrow.Author.Tests.{ne_eqb}
-use Rattle.bat.specs.declared.Place.TheVariants.{Itself}
-use Rattle.bat.specs.declared.Decoding.TheVariants.{Unrecognised}
+use Rattle.std.specs.Prelude.{Err, None}
 use Rattle.bat.specs.Values.{Decoding, action_in, backbone_in, address_in, codec_list_in, single_in, report_in, characteristics_in, control_in, tunnelling_in, unit_in, signal_in, capability_in, indicators_in, type_in, duration_in, decoding}
 use Rattle.bat.specs.ValueMeaning.{decoding_in}
 
@@ -72,7 +71,7 @@ module _ (i : ℕ) (s : List ℕ) where
   reading_duration x e p = rw e p
 
   pub reading_none : (i ≡ 1 → ⊥) → (i ≡ 2 → ⊥) → (i ≡ 3 → ⊥) → (i ≡ 4 → ⊥) → (i ≡ 5 → ⊥) → (i ≡ 6 → ⊥) → (i ≡ 7 → ⊥) → (i ≡ 8 → ⊥) → (i ≡ 9 → ⊥) → (i ≡ 10 → ⊥) → (i ≡ 11 → ⊥) → (i ≡ 12 → ⊥) → (i ≡ 13 → ⊥) → (i ≡ 14 → ⊥) → (i ≡ 15 → ⊥)
-      → decoding_in s (Unrecognised Itself) ≡ some (decoding i s)
+      → decoding_in s (Err (record { inner = None })) ≡ some (decoding i s)
   unfolding decoding_in decoding
   reading_none n1 n2 n3 n4 n5 n6 n7 n8 n9 n10 n11 n12 n13 n14 n15 =
       simp (ne_eqb i 1 n1, ne_eqb i 2 n2, ne_eqb i 3 n3, ne_eqb i 4 n4, ne_eqb i 5 n5, ne_eqb i 6 n6, ne_eqb i 7 n7, ne_eqb i 8 n8, ne_eqb i 9 n9, ne_eqb i 10 n10, ne_eqb i 11 n11, ne_eqb i 12 n12, ne_eqb i 13 n13, ne_eqb i 14 n14, ne_eqb i 15 n15)

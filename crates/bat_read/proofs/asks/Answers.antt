@@ -4,8 +4,8 @@ use Rattle.bat_read.proofs.OutcomeLaws.{asking}
 use borrow.Author.Rules.{rules}
 use Rattle.bat_read.proofs.asks.Goals as goal
 
-pub returns-in-Recognised : goal.returns-in-Recognised
-returns-in-Recognised c = search (asking, rules)
+pub returns-in-Ok : goal.returns-in-Ok
+returns-in-Ok c = search (asking, rules)
 
 pub returns-in-PassOn : goal.returns-in-PassOn
 returns-in-PassOn c = search (asking, rules)

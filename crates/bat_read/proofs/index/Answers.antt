@@ -7,11 +7,11 @@ use Rattle.bat_read.proofs.index.Goals as goal
 pub overflow_add-result : goal.overflow_add-result
 overflow_add-result c = search (index_fits, rules)
 
-pub returns-in-Decoded : goal.returns-in-Decoded
-returns-in-Decoded c = search (indexes, rules)
+pub returns-in-Ok : goal.returns-in-Ok
+returns-in-Ok c = search (indexes, rules)
 
-pub returns-in-Itself : goal.returns-in-Itself
-returns-in-Itself c = search (indexes, rules)
+pub returns-in-None : goal.returns-in-None
+returns-in-None c = search (indexes, rules)
 
-pub returns-in-Inner : goal.returns-in-Inner
-returns-in-Inner c = search (indexes, rules)
+pub returns-in-Some : goal.returns-in-Some
+returns-in-Some c = search (indexes, rules)

@@ -6,8 +6,8 @@ use lib.ListN.{length, drop}
 use Rattle.bat_read.specs.Examining.{listings}
 use Rattle.bat_read.proofs.next_listed.Given as goal
 
-abbrev pub invariant-loop-at : goal.invariant-loop-at
-invariant-loop-at l = listings l.pass l.at (drop l.at l.data) ≡ listings l.pass l.from (drop l.from l.data)
+abbrev pub invariant-loop-x : goal.invariant-loop-x
+invariant-loop-x l = listings l.pass l.at (drop l.at l.data) ≡ listings l.pass l.from (drop l.from l.data)
 
-abbrev pub decreases-loop-at : goal.decreases-loop-at
-decreases-loop-at l = length l.data - l.at
+abbrev pub decreases-loop-x : goal.decreases-loop-x
+decreases-loop-x l = length l.data - l.at

@@ -1,33 +1,21 @@
 use native.Mathlib.Omega.{arith}
 use Rattle.bat.specs.JudgingMeaning.{data_number}
-use Rattle.bat_read.proofs.OutcomeLaws.{outcomes, seen_fits, seen_falls}
+use Rattle.bat_read.proofs.OutcomeLaws.{outcomes}
 use borrow.Author.Rules.{rules}
 use Rattle.bat_read.proofs.outcome.Goals as goal
 
-pub loop-at-init : goal.loop-at-init
+pub loop-x-init : goal.loop-x-init
 unfolding data_number
-loop-at-init c = omega arith
+loop-x-init c = omega arith
 
-pub overflow_add-at : goal.overflow_add-at
-overflow_add-at c = search (seen_fits, rules)
+pub loop-x-smaller : goal.loop-x-smaller
+loop-x-smaller c = search (outcomes, rules)
 
-pub loop-at-smaller : goal.loop-at-smaller
-loop-at-smaller c = search (seen_falls, rules)
+pub loop-x-preserved : goal.loop-x-preserved
+loop-x-preserved c = search (outcomes, rules)
 
-pub loop-at-preserved : goal.loop-at-preserved
-loop-at-preserved c = search (outcomes, rules)
+pub returns-in_default : goal.returns-in_default
+returns-in_default c = search (outcomes, rules)
 
-pub enum_told-1 : goal.enum_told-1
-enum_told-1 c = search (outcomes, rules)
-
-pub returns-in-Unframed : goal.returns-in-Unframed
-returns-in-Unframed c = search (outcomes, rules)
-
-pub enum_told-in-Ended : goal.enum_told-in-Ended
-enum_told-in-Ended c = search (outcomes, rules)
-
-pub returns-in-Ended : goal.returns-in-Ended
-returns-in-Ended c = search (outcomes, rules)
-
-pub returns : goal.returns
-returns c = search (outcomes, rules)
+pub returns-in_default-2 : goal.returns-in_default-2
+returns-in_default-2 c = search (outcomes, rules)

@@ -8,8 +8,8 @@ use Rattle.bat_read.proofs.constructors.codec_list.Goals as goal
 pub returns-then-s-eq0 : goal.returns-then-s-eq0
 returns-then-s-eq0 c = search (lists, stands_all, rules)
 
-pub returns-in-At : goal.returns-in-At
-returns-in-At c = search (lists, stands_all, rules)
+pub returns-in-Some : goal.returns-in-Some
+returns-in-Some c = search (lists, stands_all, rules)
 
-pub returns-in-Nowhere : goal.returns-in-Nowhere
-returns-in-Nowhere c = search (lists, stands_all, rules)
+pub returns-in-None : goal.returns-in-None
+returns-in-None c = search (lists, stands_all, rules)

@@ -12,23 +12,17 @@ overflow_add-at c = search (places, rules)
 pub loop-at-smaller : goal.loop-at-smaller
 loop-at-smaller c = search (places, rules)
 
+pub returns-in_default : goal.returns-in_default
+returns-in_default c = search (offences, rules)
+
+pub returns-in_default-2 : goal.returns-in_default-2
+returns-in_default-2 c = search (offences, rules)
+
+pub returns-then-not-is_single : goal.returns-then-not-is_single
+returns-then-not-is_single c = search (offences, rules)
+
 pub loop-at-preserved : goal.loop-at-preserved
 loop-at-preserved c = search (offences, rules)
-
-pub returns-else-is_single : goal.returns-else-is_single
-returns-else-is_single c = search (offences, rules)
-
-pub enum_told-1 : goal.enum_told-1
-enum_told-1 c = search (offences, rules)
-
-pub returns-in-Unframed : goal.returns-in-Unframed
-returns-in-Unframed c = search (offences, rules)
-
-pub enum_told-in-Ended : goal.enum_told-in-Ended
-enum_told-in-Ended c = search (offences, rules)
-
-pub returns-in-Ended : goal.returns-in-Ended
-returns-in-Ended c = search (offences, rules)
 
 pub returns : goal.returns
 returns c = search (offences, rules)

@@ -4,14 +4,11 @@ use Rattle.bat_read.proofs.ConstructorLaws.{signals}
 use borrow.Author.Rules.{rules}
 use Rattle.bat_read.proofs.constructors.signal.Goals as goal
 
-pub typed-requires : goal.typed-requires
-typed-requires c = cc
+pub returns-in-Ok-Some : goal.returns-in-Ok-Some
+returns-in-Ok-Some c = search (signals, rules)
 
-pub returns-in-Whole : goal.returns-in-Whole
-returns-in-Whole c = search (signals, rules)
+pub returns-in-Ok-None : goal.returns-in-Ok-None
+returns-in-Ok-None c = search (signals, rules)
 
-pub returns-in-Unframed : goal.returns-in-Unframed
-returns-in-Unframed c = search (signals, rules)
-
-pub returns-in-Ended : goal.returns-in-Ended
-returns-in-Ended c = search (signals, rules)
+pub returns-in-Err : goal.returns-in-Err
+returns-in-Err c = search (signals, rules)

@@ -4,11 +4,11 @@ use Rattle.bat_read.proofs.ConstructorLaws.{timed_ended, timed_unframed, timed_l
 use borrow.Author.Rules.{rules}
 use Rattle.bat_read.proofs.constructors.timed.Goals as goal
 
-pub returns-in-Whole : goal.returns-in-Whole
-returns-in-Whole c = λ m. search (timed_last, c.last.ensures, rules)
+pub returns-in-Ok-Some : goal.returns-in-Ok-Some
+returns-in-Ok-Some c = λ m. search (timed_last, c.last.ensures, rules)
 
-pub returns-in-Unframed : goal.returns-in-Unframed
-returns-in-Unframed c = λ m. search (timed_ended, timed_unframed, rules)
+pub returns-in-Err : goal.returns-in-Err
+returns-in-Err c = λ m. search (timed_ended, timed_unframed, rules)
 
-pub returns-in-Ended : goal.returns-in-Ended
-returns-in-Ended c = λ m. search (timed_ended, timed_unframed, rules)
+pub returns-in-Ok-None : goal.returns-in-Ok-None
+returns-in-Ok-None c = λ m. search (timed_ended, timed_unframed, rules)
