@@ -1,12 +1,12 @@
 -- Laws of spans that lie inside their source: by how many texts there are, and where the end of the source cuts a span.
 -- Assumes nothing.
 use Prim.Native.Nat.{ℕ, zero, suc, ◌+◌, ◌-◌, ◌≤◌, ◌<◌}
-use mathlib.Core.Path.{◌≡◌, refl, sym, ◌∙◌}
-use mathlib.Core.List.{List, [], ◌∷◌, map}
-use mathlib.Core.Bool.{Bool, true, false, and-true, and-false}
-use lib.ListN.{length, take}
-use lib.Seq.{take_all, take-nil}
-use lib.Dec.{leb}
+use mathlib.Core.Path.{◌≡◌, refl, sym, ap, ◌∙◌}
+use mathlib.Core.List.{List, [], ◌∷◌, ◌++◌, map}
+use mathlib.Core.Bool.{Bool, true, false, ◌&&◌, and-false, and_assoc, and-eq-true_iff}
+use lib.ListN.{length, take, get_or, set}
+use Rattle.std.proofs.lemmas.List.{take_more, take-map}
+use lib.Seq.{take-take}
 use native.Mathlib.Omega.{arith}
 use borrow.Author.Tests.{le-leb, lt-leb}
 use Rattle.octets.specs.declared.Span.{Span}
@@ -17,54 +17,37 @@ use Rattle.media.specs.declared.Stream.{Stream as Places}
 use Rattle.media.specs.Meaning.{spans_of, texts_by, stream_by, all_in, texts_inside, stream_inside, KeptInside}
 use Rattle.media.specs.Private.{KeptSpan, KeptTexts}
 
--- ---- the test of several spans; t, u and w are the tests of the first, second and third
-module _ (m : List ℕ) (x : Texts) where
-  pub in_0 : x.count ≡ 0 → true ≡ texts_inside m x
-  unfolding spans_of all_in
-  in_0 h = rw h
+-- ---- the test of several spans
+module _ (m : List ℕ) where
+  all_append : (xs ys : List Span) → all_in m (xs ++ ys) ≡ (all_in m xs && all_in m ys)
+  unfolding all_in
+  all_append [] ys = refl
+  all_append (x ∷ xs) ys = rw (all_append xs ys) (sym (and_assoc (inside m x) (all_in m xs) (all_in m ys)))
 
-  pub out_4 : 3 < x.count → false ≡ texts_inside m x
-  out_4 h = rw (lt-leb x.count 3 h)
+  out_at : (d : Span) (xs : List Span) (i : ℕ) → i < length xs → inside m (get_or xs i d) ≡ false → all_in m xs ≡ false
+  unfolding all_in
+  out_at d [] i l e = absurd (omega arith)
+  out_at d (x ∷ xs) zero l e = rw e
+  out_at d (x ∷ xs) (suc i) l e = rw (out_at d xs i (omega arith) e) (and-false (inside m x))
 
-  module _ (n₀ : x.count ≡ 0 → ⊥) (t : Bool) (p : t ≡ inside m x.first) where
-    pub out_1 : t ≡ false → false ≡ texts_inside m x
-    unfolding spans_of all_in
-    out_1 q =
-        let k : x.count ≡ suc (x.count - 1) = omega arith in
-        let f : inside m x.first ≡ false = sym p ∙ q in
-        rw (k, f) (sym (and-false (leb (suc (x.count - 1)) 3)))
+  -- at place i of xs; t is the test of the span there
+  module _ (xs : List Span) (i : ℕ) (d : Span) (l : i < length xs) (t : Bool) (p : t ≡ inside m (get_or xs i d)) where
+    pub all_on : t ≡ true → all_in m (take i xs) ≡ true → all_in m (take (i + 1) xs) ≡ true
+    unfolding all_in
+    all_on q h = rw (take_more xs i d l, all_append (take i xs) (get_or xs i d ∷ []), h, ← p, q)
 
-    module _ (q : t ≡ true) where
-      f₁ : inside m x.first ≡ true
-      f₁ = sym p ∙ q
+    pub all_out : t ≡ false → all_in m xs ≡ false
+    all_out q = out_at d xs i l (sym p ∙ q)
 
-      pub in_1 : x.count ≡ 1 → true ≡ texts_inside m x
-      unfolding spans_of all_in
-      in_1 h = rw (h, f₁)
+  module _ (x : Texts) (xs : List Span) (e : xs ≡ spans_of x) where
+    pub texts_in : x.count ≤ 3 → all_in m xs ≡ true → true ≡ texts_inside m x
+    texts_in h a = rw (le-leb x.count 3 h, ← e) (sym a)
 
-      module _ (n₁ : x.count ≡ 1 → ⊥) (u : Bool) (r : u ≡ inside m x.second) where
-        pub out_2 : u ≡ false → false ≡ texts_inside m x
-        unfolding spans_of all_in
-        out_2 g =
-            let k : x.count ≡ suc (suc (x.count - 2)) = omega arith in
-            let f : inside m x.second ≡ false = sym r ∙ g in
-            rw (k, f₁, f) (sym (and-false (leb (suc (suc (x.count - 2))) 3)))
+    pub texts_out : x.count ≤ 3 → all_in m xs ≡ false → false ≡ texts_inside m x
+    texts_out h a = rw (le-leb x.count 3 h, ← e) (sym a)
 
-        module _ (g : u ≡ true) where
-          f₂ : inside m x.second ≡ true
-          f₂ = sym r ∙ g
-
-          pub in_2 : x.count ≡ 2 → true ≡ texts_inside m x
-          unfolding spans_of all_in
-          in_2 h = rw (h, f₁, f₂)
-
-          pub in_3 : (w : Bool) → (x.count ≡ 2 → ⊥) → x.count ≤ 3 → w ≡ inside m x.third → w ≡ texts_inside m x
-          unfolding spans_of all_in
-          in_3 w n₂ h e =
-              let k : x.count ≡ 3 = omega arith in
-              rw (k, f₁, f₂) (e ∙ sym (and-true (inside m x.third)))
-
-pub ruleset texts_in = (in_0, out_4, out_1, in_1, out_2, in_2, in_3)
+  pub texts_many : (x : Texts) → 3 < x.count → false ≡ texts_inside m x
+  texts_many x h = rw (lt-leb x.count 3 h)
 
 -- ---- a span cut to its source
 module _ (m : List ℕ) (sp : Span) where
@@ -82,32 +65,47 @@ module _ (m : List ℕ) (sp : Span) where
 
 pub ruleset kept_spans = (kept_none, kept_cut, kept_whole)
 
--- ---- the spans of several texts; a, b and d are kept of the first, second and third
-module _ (m : List ℕ) (x : Texts) (a b d : Span) (p : KeptSpan m x.first a) (q : KeptSpan m x.second b) (r : KeptSpan m x.third d) where
-  same_texts : (n : ℕ) → map (text_of m) (take n (a ∷ b ∷ d ∷ [])) ≡ map (text_of m) (take n (x.first ∷ x.second ∷ x.third ∷ []))
-  same_texts zero = refl
-  same_texts (suc zero) = rw p.same
-  same_texts (suc (suc zero)) = rw (p.same, q.same)
-  same_texts (suc (suc (suc n))) = rw (take-nil {A = Span} n, p.same, q.same, r.same)
+-- ---- the spans of several texts
+module _ (m : List ℕ) where
+  -- r is kept of the span at place i of xs
+  module _ (d : Span) (r : Span) where
+    pub same_set : (xs : List Span) (i : ℕ) → KeptSpan m (get_or xs i d) r → map (text_of m) (set xs i r) ≡ map (text_of m) xs
+    same_set [] i k = refl
+    same_set (x ∷ xs) zero k = rw k.same
+    same_set (x ∷ xs) (suc i) k = rw (same_set xs i k)
 
-  all_kept : (n : ℕ) → all_in m (take n (a ∷ b ∷ d ∷ [])) ≡ true
+    in_set : (xs : List Span) (i : ℕ) → KeptSpan m (get_or xs i d) r → all_in m (take i xs) ≡ true → all_in m (take (suc i) (set xs i r)) ≡ true
+    unfolding all_in
+    in_set [] i k h = refl
+    in_set (x ∷ xs) zero k h = rw k.inside
+    in_set (x ∷ xs) (suc i) k h =
+        let f = (and-eq-true_iff (inside m x) (all_in m (take i xs))).0 h in
+        rw (f.0) (in_set xs i k f.1)
+
+    pub in_more : (xs : List Span) (i : ℕ) → KeptSpan m (get_or xs i d) r → all_in m (take i xs) ≡ true → all_in m (take (i + 1) (set xs i r)) ≡ true
+    in_more xs i k h = let z : i + 1 ≡ suc i = omega arith in rw z (in_set xs i k h)
+
+  in_front : (n : ℕ) (xs : List Span) → all_in m xs ≡ true → all_in m (take n xs) ≡ true
   unfolding all_in
-  all_kept zero = refl
-  all_kept (suc zero) = rw p.inside
-  all_kept (suc (suc zero)) = rw (p.inside, q.inside)
-  all_kept (suc (suc (suc n))) = rw (take-nil {A = Span} n, p.inside, q.inside, r.inside)
+  in_front zero xs h = refl
+  in_front (suc n) [] h = refl
+  in_front (suc n) (x ∷ xs) h =
+      let f = (and-eq-true_iff (inside m x) (all_in m xs)).0 h in
+      rw (f.0) (in_front n xs f.1)
 
-  pub kept_few : x.count < 3 → KeptTexts m x (record { count = x.count; first = a; second = b; third = d })
+  -- ys are kept of the spans of x, and n is how many texts there are
+  pub kept_texts : (x : Texts) (n : ℕ) (ys : List Span) (i : ℕ) → n ≡ length (spans_of x) → n ≤ 3 → 3 ≤ i → map (text_of m) ys ≡ map (text_of m) x.spans → all_in m (take i ys) ≡ true
+      → KeptTexts m x (record { count = n; spans = ys })
   unfolding texts_by spans_of
-  kept_few h = record { same = same_texts x.count; inside = rw (le-leb x.count 3 (omega arith)) (all_kept x.count) }
-
-  pub kept_three : 3 ≤ x.count → KeptTexts m x (record { count = 3; first = a; second = b; third = d })
-  unfolding texts_by spans_of
-  kept_three h =
-      let f : take x.count (x.first ∷ x.second ∷ x.third ∷ []) ≡ x.first ∷ x.second ∷ x.third ∷ [] = take_all x.count (x.first ∷ x.second ∷ x.third ∷ []) h in
-      record { same = rw f (same_texts 3); inside = all_kept 3 }
-
-pub ruleset kept_texts = (kept_few, kept_three)
+  kept_texts x n ys i e l h s a = record {
+    same = sym (take-map (text_of m) n ys) ∙ rw s (take-map (text_of m) n x.spans ∙ rw e (ap (map (text_of m)) (front x.count x.spans)));
+    inside = rw (le-leb n 3 l, ← take-take n i ys (omega arith)) (in_front n (take i ys) a);
+  }
+    where
+      front : (k : ℕ) (xs : List Span) → take (length (take k xs)) xs ≡ take k xs
+      front zero xs = refl
+      front (suc k) [] = refl
+      front (suc k) (x ∷ xs) = ap (λ (l : List Span). x ∷ l) (front k xs)
 
 -- ---- a stream
 pub kept_stream : (m : List ℕ) (s : Places) (a b d : Span) (x : Texts)

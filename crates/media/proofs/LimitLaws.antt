@@ -4,20 +4,19 @@
 use Prim.Native.Nat.{ℕ, ◌+◌, ◌/◌, ◌≤◌, ◌<◌}
 use mathlib.Core.Path.{◌≡◌, sym, ◌∙◌}
 use mathlib.Core.List.{List, [], ◌∷◌, ◌++◌, map}
-use lib.ListN.{length, length-append}
-use lib.Seq.{take_all}
+use lib.ListN.{length, take, get_or, length-append}
 use lib.Dec.{leb}
 use native.Mathlib.Omega.{arith}
+use Rattle.std.proofs.lemmas.List.{take_more, map-append}
 use borrow.Author.Tests.{le-leb, lt-leb, eq-eqb, ne_eqb}
 use Rattle.octets.specs.declared.Span.{Span}
 use Rattle.octets.specs.Append.{width_from, number_text}
 use Rattle.octets.specs.Spans.{text_of}
 use Rattle.octets.proofs.AppendLaws.{width_one, width_suc, length_last}
 use Rattle.octets.proofs.CaseLaws.{by_le}
-use Rattle.media.specs.declared.Texts.{Texts}
 use Rattle.media.specs.declared.Stream.{Stream as Places}
 use Rattle.media.specs.Stream.{most_attributes, attribute_text, rtpmap_text, fmtp_text, rtpmap_lines, fmtp_lines, octets_together, attributes_fit}
-use Rattle.media.specs.Meaning.{spans_of, texts_by, stream_by}
+use Rattle.media.specs.Meaning.{texts_by, stream_by}
 use Rattle.media.specs.Private.{capped, Width}
 
 -- ---- how many digits a payload has
@@ -62,36 +61,21 @@ pub fmtp_capped : (m : List ℕ) (sp : Span) (t : List ℕ) (a r : ℕ) → t �
     → r ≡ capped (length (fmtp_text (text_of m sp)))
 fmtp_capped m sp t a r e p q = rw (← e) (omega (arith, length_fmtp t))
 
--- the counts of the first, second and third line are a, b and d
-module _ (m : List ℕ) (x : Texts) where
-  pub fmtps_0 : x.count ≡ 0 → 0 ≡ capped (octets_together (map fmtp_text (texts_by m x)))
-  unfolding texts_by spans_of octets_together
-  fmtps_0 h = rw h
-
-  module _ (a : ℕ) (p : a ≡ capped (length (fmtp_text (text_of m x.first)))) where
-    pub fmtps_1 : x.count ≡ 1 → a ≡ capped (octets_together (map fmtp_text (texts_by m x)))
-    unfolding texts_by spans_of octets_together
-    fmtps_1 h = rw h (omega arith)
-
-    module _ (b : ℕ) (q : b ≡ capped (length (fmtp_text (text_of m x.second)))) where
-      pub fmtps_2 : (r : ℕ) → x.count ≡ 2 → r ≡ capped (a + b) → r ≡ capped (octets_together (map fmtp_text (texts_by m x)))
-      unfolding texts_by spans_of octets_together
-      fmtps_2 r h e = rw h (omega arith)
-
-      pub fmtps_3 : (d r : ℕ) → (x.count ≡ 0 → ⊥) → (x.count ≡ 1 → ⊥) → (x.count ≡ 2 → ⊥)
-          → d ≡ capped (length (fmtp_text (text_of m x.third))) → r ≡ capped (a + b + d)
-          → r ≡ capped (octets_together (map fmtp_text (texts_by m x)))
-      unfolding texts_by spans_of octets_together
-      fmtps_3 d r h₀ h₁ h₂ w e = rw (take_all x.count (x.first ∷ x.second ∷ x.third ∷ []) (omega arith)) (omega arith)
-
-pub ruleset fmtps = (fmtps_0, fmtps_1, fmtps_2, fmtps_3)
-
--- ---- all of them together
 pub together_append : (xs ys : List (List ℕ)) → octets_together (xs ++ ys) ≡ octets_together xs + octets_together ys
 unfolding octets_together
 together_append [] ys = omega arith
 together_append (x ∷ xs) ys = rw (together_append xs ys) (omega arith)
 
+-- the fmtp lines of the first i spans, and of one more; a is that line's count
+pub fmtps_more : (m : List ℕ) (xs : List Span) (i : ℕ) (d : Span) (n a r : ℕ) → i < length xs
+    → n ≡ capped (octets_together (map fmtp_text (map (text_of m) (take i xs)))) → a ≡ capped (length (fmtp_text (text_of m (get_or xs i d)))) → r ≡ capped (n + a)
+    → r ≡ capped (octets_together (map fmtp_text (map (text_of m) (take (i + 1) xs))))
+unfolding octets_together
+fmtps_more m xs i d n a r h e f g =
+    rw (take_more xs i d h, map-append (text_of m) (take i xs) (get_or xs i d ∷ []), map-append fmtp_text (map (text_of m) (take i xs)) (text_of m (get_or xs i d) ∷ []), together_append _ _)
+    (omega arith)
+
+-- ---- all of them together
 sum_fits : (p q a b : ℕ) → a ≡ capped p → b ≡ capped q → leb (a + b) most_attributes ≡ leb (p + q) most_attributes
 sum_fits p q a b e f =
     by_le (p + q) most_attributes _

@@ -1,6 +1,6 @@
 -- What the structs and enums of this crate stand for. The code's `Stream` (here `code.Stream`) and the definition's are the same
 -- thing: the code's has places in a source, as spans, where the definition's has the texts.
-use Rattle.std.specs.Prelude.{ℕ, ◌≡◌, List, [], ◌∷◌, map, Bool, true, ◌&&◌, take, leb, Some, None}
+use Rattle.std.specs.Prelude.{ℕ, ◌≡◌, List, [], ◌∷◌, map, Bool, true, ◌&&◌, take, leb, replicate, Some, None}
 use Rattle.std.specs.Prelude as answer
 use Rattle.std.proofs.Math.Option.{Option, none, some}
 use Rattle.octets.specs.declared.Span.{Span}
@@ -12,7 +12,7 @@ use Rattle.media.specs.Stream.{Stream}
 
 -- the spans that a `Texts` holds
 unfoldable pub spans_of : Texts → List Span
-spans_of x = take x.count (x.first ∷ x.second ∷ x.third ∷ [])
+spans_of x = take x.count x.spans
 
 -- their texts
 unfoldable pub texts_by : List ℕ → Texts → List (List ℕ)
@@ -38,7 +38,7 @@ bare_places media port transport payload = record {
   transport = transport;
   payload = payload;
   rtpmap = record { at = 0; len = 0 };
-  fmtp = record { count = 0; first = record { at = 0; len = 0 }; second = record { at = 0; len = 0 }; third = record { at = 0; len = 0 } };
+  fmtp = record { count = 0; spans = replicate 3 (record { at = 0; len = 0 }) };
   ptime = 0;
 }
 

@@ -1,11 +1,11 @@
 // The three attributes of a media line: v is the span in m of what comes after the colon, and t its text.
-ghost use Rattle.std.specs.Prelude.{◌≡◌, ◌∷◌, [], ◌++◌, ◌<◌, length, eqb};
+ghost use Rattle.std.specs.Prelude.{◌≡◌, length, eqb};
 ghost use Rattle.octets.specs.Spans.{text_of};
 ghost use Rattle.texts.specs.Tokens.{after_blank};
 ghost use Rattle.media.specs.Attributes.{fitting, rtpmap_of, fmtp_of, ptime_of};
-ghost use Rattle.media.specs.Meaning.{spans_of, stream_by, taken_by};
+ghost use Rattle.media.specs.Meaning.{stream_by, taken_by};
 
-use crate::{Stream, Texts, limit, token_number};
+use crate::{Stream, limit, token_number};
 use octets::Span;
 use octets::decimal::read_number;
 use octets::spans::text;
@@ -60,50 +60,16 @@ pub(crate) fn rtpmap(s: Stream, m: &[u8], v: Span, t: &[u8]) -> Option<Stream>
     None
 }
 
-// How many texts x holds.
-fn count(x: Texts) -> usize
-    ensures { result ≡ length (spans_of x) }
-{
-    let n = x.count;
-    if n < 3 {
-        return n as usize;
-    }
-    3
-}
-
-// x and one text more.
-fn push(x: Texts, sp: Span) -> Texts
-    requires { length (spans_of x) < 3 }
-    ensures { spans_of result ≡ spans_of x ++ (sp ∷ []) }
-{
-    let n = x.count;
-    let mut y = x;
-    if n == 0 {
-        y.count = 1;
-        y.first = sp;
-        return y;
-    }
-    if n == 1 {
-        y.count = 2;
-        y.second = sp;
-        return y;
-    }
-    y.count = 3;
-    y.third = sp;
-    y
-}
-
 // s with this fmtp line.
 pub(crate) fn fmtp(s: Stream, m: &[u8], v: Span) -> Option<Stream>
     ensures { taken_by m.now result ≡ fmtp_of (stream_by m.now s) (text_of m.now v) }
 {
     let x = s.fmtp;
-    let n = count(x);
-    if 3 <= n {
+    if 3 <= x.as_slice().len() {
         return None;
     }
     let mut next = s;
-    next.fmtp = push(x, v);
+    next.fmtp = x.with(v);
     fitting(next, m)
 }
 

@@ -11,28 +11,15 @@ use octets::spans::is_inside;
 fn texts_inside(x: Texts, m: &[u8]) -> bool
     ensures { result ≡ texts_inside m.now x }
 {
-    let n = x.count;
-    if 3 < n {
+    if 3 < x.count {
         return false;
     }
-    if n == 0 {
-        return true;
-    }
-    let first = x.first;
-    if is_inside(m, first) {
-        if n == 1 {
-            return true;
-        }
-        let second = x.second;
-        if is_inside(m, second) {
-            if n == 2 {
-                return true;
-            }
-            let third = x.third;
-            return is_inside(m, third);
+    for sp in x.as_slice() {
+        if !is_inside(m, *sp) {
+            return false;
         }
     }
-    false
+    true
 }
 
 // The spans of s lie inside m.
@@ -75,27 +62,12 @@ fn clamp(m: &[u8], sp: Span) -> Span
 fn clamp_texts(m: &[u8], x: Texts) -> Texts
     ensures { KeptTexts m.now x result }
 {
-    let n = x.count;
-    let a = x.first;
-    let b = x.second;
-    let c = x.third;
-    let first = clamp(m, a);
-    let second = clamp(m, b);
-    let third = clamp(m, c);
-    if n < 3 {
-        return Texts {
-            count: n,
-            first,
-            second,
-            third,
-        };
+    let count = x.as_slice().len() as u8;
+    let mut spans = x.spans;
+    for sp in spans.iter_mut() {
+        *sp = clamp(m, *sp);
     }
-    Texts {
-        count: 3,
-        first,
-        second,
-        third,
-    }
+    Texts { count, spans }
 }
 
 // The stream that says the same as s in m, with spans that lie inside m.

@@ -5,13 +5,13 @@ mod attributes;
 pub mod inside;
 pub mod limit;
 
-ghost use Rattle.std.specs.Prelude.{◌≡◌};
+ghost use Rattle.std.specs.Prelude.{◌≡◌, ◌∷◌, [], ◌++◌, ◌<◌, ◌≤◌, length};
 ghost use Rattle.octets.specs.Decimal.{read_number};
 ghost use Rattle.octets.specs.Spans.{text_of};
 ghost use Rattle.texts.specs.Tokens.{token};
 ghost use Rattle.media.specs.Stream.{bare_stream};
 ghost use Rattle.media.specs.Attributes.{media_of, is_attribute, attribute_of};
-ghost use Rattle.media.specs.Meaning.{stream_by, bare_places, taken_by};
+ghost use Rattle.media.specs.Meaning.{spans_of, stream_by, bare_places, taken_by};
 
 use octets::Span;
 use octets::decimal::read_number;
@@ -23,13 +23,38 @@ use texts::{cut, inner, skip};
 // The most octets of rtpmap and fmtp lines together, without their ends.
 pub const MOST_ATTRIBUTES: usize = 256;
 
-// At most three texts of a source.
+// At most three texts of a source: the first `count` spans, or all if it counts more than there are.
 #[derive(Clone, Copy)]
 pub struct Texts {
     pub count: u8,
-    pub first: Span,
-    pub second: Span,
-    pub third: Span,
+    pub spans: [Span; 3],
+}
+
+impl Texts {
+    // The spans of the texts.
+    pub fn as_slice(&self) -> &[Span]
+        ensures places { result.now ≡ spans_of self.now }
+        ensures few { length result.now ≤ 3 }
+    {
+        let n = self.count as usize;
+        if n < self.spans.len() {
+            return &self.spans[..n];
+        }
+        &self.spans
+    }
+
+    // The same texts and one more.
+    fn with(&self, sp: Span) -> Texts
+        requires { length (spans_of self.now) < 3 }
+        ensures { spans_of result ≡ spans_of self.now ++ (sp ∷ []) }
+    {
+        let mut spans = self.spans;
+        spans[self.count as usize] = sp;
+        Texts {
+            count: self.count + 1,
+            spans,
+        }
+    }
 }
 
 // What a media line and its attributes say, with the places of its texts in a source. An empty rtpmap means that there is none,
@@ -58,9 +83,7 @@ pub fn bare(media: Span, port: u16, transport: Span, payload: u8) -> Stream
         rtpmap: none,
         fmtp: Texts {
             count: 0,
-            first: none,
-            second: none,
-            third: none,
+            spans: [none; 3],
         },
         ptime: 0,
     }

@@ -57,23 +57,11 @@ fn fmtp_line(sp: Span, m: &[u8]) -> usize
 fn fmtp_octets(x: Texts, m: &[u8]) -> usize
     ensures { result ≡ capped (octets_together (map fmtp_text (texts_by m.now x))) }
 {
-    let n = x.count;
-    if n == 0 {
-        return 0;
+    let mut n = 0;
+    for sp in x.as_slice() {
+        n = cap(n + fmtp_line(*sp, m));
     }
-    let first = x.first;
-    let a = fmtp_line(first, m);
-    if n == 1 {
-        return a;
-    }
-    let second = x.second;
-    let b = fmtp_line(second, m);
-    if n == 2 {
-        return cap(a + b);
-    }
-    let third = x.third;
-    let c = fmtp_line(third, m);
-    cap(a + b + c)
+    n
 }
 
 // The rtpmap and fmtp lines of s, whose texts are in m, are not too long.

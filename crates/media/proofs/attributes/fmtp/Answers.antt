@@ -8,9 +8,9 @@ use Rattle.media.proofs.TextsLaws.{room, no_room}
 use Rattle.media.proofs.LineLaws.{fmtp_stored}
 use Rattle.media.proofs.attributes.fmtp.Goals as goal
 
-pub returns-then-n-ge3 : goal.returns-then-n-ge3
+pub returns-then-as_slice-ge3 : goal.returns-then-as_slice-ge3
 unfolding fmtp_of taken_by stream_by
-returns-then-n-ge3 c = search (cond_no, no_room, rules)
+returns-then-as_slice-ge3 c = search (cond_no, no_room, rules)
 
 pub returns : goal.returns
 unfolding fmtp_of taken_by stream_by

@@ -1,11 +1,18 @@
--- `inside::clamp_texts` meets its contract: each span is kept, and where the count is over three, three are held.
--- Assumes nothing.
-use borrow.Author.Rules.{rules}
-use Rattle.media.proofs.InsideLaws.{kept_texts}
+use mathlib.Core.Path.{refl, ap, ◌∙◌}
+use lib.ListN.{length}
+use Rattle.media.specs.Meaning.{all_in}
+use Rattle.media.proofs.InsideLaws.{same_set, in_more, kept_texts}
 use Rattle.media.proofs.inside.clamp_texts.Goals as goal
 
-pub returns-then-n-lt3 : goal.returns-then-n-lt3
-returns-then-n-lt3 c = search (kept_texts, rules)
+pub loop-sp-init : goal.loop-sp-init
+unfolding all_in
+loop-sp-init c = record { same = refl; inside = refl }
+
+pub loop-sp-preserved : goal.loop-sp-preserved
+loop-sp-preserved c = record {
+  same = same_set _ _ _ _ _ c.clamp.ensures ∙ c.loop-sp.invariant.same;
+  inside = in_more _ _ _ _ _ c.clamp.ensures c.loop-sp.invariant.inside;
+}
 
 pub returns : goal.returns
-returns c = search (kept_texts, rules)
+returns c = kept_texts _ _ _ _ _ (ap length c.as_slice.ensures.places) c.as_slice.ensures.few c.loop-sp-test.false c.loop-sp.invariant.same c.loop-sp.invariant.inside

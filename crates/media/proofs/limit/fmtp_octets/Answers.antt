@@ -1,17 +1,19 @@
--- `limit::fmtp_octets` meets its contract: as many lines are added up as the count names.
--- Assumes nothing.
-use borrow.Author.Rules.{rules}
-use Rattle.media.proofs.LimitLaws.{fmtps}
+use mathlib.Core.Path.{refl}
+use lib.Seq.{take_all}
+use Rattle.media.specs.Meaning.{texts_by}
+use Rattle.media.specs.Stream.{octets_together}
+use Rattle.media.proofs.LimitLaws.{fmtps_more}
 use Rattle.media.proofs.limit.fmtp_octets.Goals as goal
 
-pub returns-then-n-eq0 : goal.returns-then-n-eq0
-returns-then-n-eq0 c = search (fmtps, rules)
+pub loop-sp-init : goal.loop-sp-init
+unfolding octets_together
+loop-sp-init c = refl
 
-pub returns-then-n-eq1 : goal.returns-then-n-eq1
-returns-then-n-eq1 c = search (fmtps, rules)
-
-pub returns-then-n-eq2 : goal.returns-then-n-eq2
-returns-then-n-eq2 c = search (fmtps, rules)
+pub loop-sp-preserved : goal.loop-sp-preserved
+loop-sp-preserved c = fmtps_more _ _ _ _ _ _ _ c.loop-sp-test.true c.loop-sp.invariant c.fmtp_line.ensures c.cap-n.ensures
 
 pub returns : goal.returns
-returns c = search (fmtps, rules)
+unfolding texts_by
+returns c =
+    let all = take_all c.loop-sp.sp-index c.as_slice-sp-items.result.now c.loop-sp-test.false in
+    rw (← c.as_slice-sp-items.ensures.places) (rw all at c.loop-sp.invariant)
