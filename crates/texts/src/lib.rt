@@ -1,8 +1,9 @@
 // Tokens of a text and what comes after its first blank, and parts of parts of a text as spans.
 #![tactic(auto)]
 
-ghost use Rattle.std.specs.Prelude.{◌≡◌, ◌<◌, drop};
+ghost use Rattle.std.specs.Prelude.{◌≡◌, ltb, drop};
 ghost use Rattle.octets.specs.Spans.{text_of};
+ghost use Rattle.octets.specs.Chain.{when};
 ghost use Rattle.texts.specs.Tokens.{after_blank, after_token, tokens_of};
 ghost use Rattle.texts.specs.Meaning.{cut_in};
 
@@ -69,11 +70,13 @@ pub fn after_token(s: &[u8]) -> &[u8]
     after(s, e + 1)
 }
 
-// The places of the N tokens of s, if it has so many.
+// The places of the N tokens of s, if it has so many; none for no tokens.
 pub fn cut<const N: usize>(s: &[u8]) -> Option<[Span; N]>
-    requires { 0 < N }
-    ensures { cut_in s.now result ≡ tokens_of N s.now }
+    ensures { cut_in s.now result ≡ when (ltb 0 N) (tokens_of N s.now) }
 {
+    if N == 0 {
+        return None;
+    }
     let mut spans = [Span { at: 0, len: 0 }; N];
     let mut from = 0;
     for i in 0..N {

@@ -1,0 +1,2 @@
+-- What a run leaves of its buffers.
+pub mod Run
