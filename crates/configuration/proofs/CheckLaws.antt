@@ -1,40 +1,25 @@
--- Laws of valid configurations: in a loop the next element and the rest decide; of several tests, one that fails decides alone.
+-- Laws of valid configurations: the entries are asked both things one by one; of several tests, one that fails decides alone.
 -- Assumes nothing.
-use Prim.Native.Nat.{ℕ, ◌+◌, ◌≤◌, ◌<◌}
-use mathlib.Core.Path.{◌≡◌, refl, sym}
-use mathlib.Core.List.{List, ◌∷◌}
+use Prim.Native.Nat.{ℕ, ◌-◌, ◌≤◌, ◌<◌}
+use mathlib.Core.Path.{◌≡◌, refl, sym, ◌∙◌}
+use mathlib.Core.List.{List, [], ◌∷◌, map}
 use mathlib.Core.Bool.{Bool, true, false, ◌&&◌, and-true, and-false}
-use lib.ListN.{length, get_or, take, drop, length-take, drop_of_length-le}
+use lib.ListN.{length, take, drop, length-map, length-take}
 use lib.Dec.{leb}
 use mir.Syntax.{w8, w16}
 use mir.Val.{Fits}
 use native.Mathlib.Omega.{arith}
 use borrow.Author.Tests.{le-leb, lt-leb}
-use Rattle.octets.proofs.Laws.{next}
+use Rattle.std.specs.Prelude.{Ok, Err}
+use Rattle.std.specs.List.{list_all}
+use Rattle.octets.specs.declared.Refusal.TheVariants.{BadConfiguration}
 use Rattle.address.specs.Kinds.{is_unicast}
 use Rattle.configuration.specs.declared.Codec.{Codec as Place}
 use Rattle.configuration.specs.declared.Config.{Config}
-use Rattle.configuration.specs.declared.Checked.TheVariants.{Usable, Refused}
-use Rattle.configuration.specs.Configuration.{Codec, between, all_visible, right_codec, all_right, right_times, right_codecs, right_general, right_configuration}
+use Rattle.configuration.specs.Configuration.{between, right_codec, all_right, right_times, right_codecs, right_general, right_configuration}
 use Rattle.configuration.specs.Meaning.{codec_by, codecs_by, configuration_by, format_inside, all_formats_inside, config_inside, right_config, checked}
-use Rattle.configuration.proofs.EntryLaws.{length_codecs, count_few, drop_places, drop_codecs}
-
--- ---- a name's octets; x is what all of them say, and those from i on decide
-module _ (s : List ℕ) (i : ℕ) (x : Bool) (inv : all_visible (drop i s) ≡ x) where
-  pub visible_all : length s ≤ i → true ≡ x
-  unfolding all_visible
-  visible_all h = rw (drop_of_length-le s h) at inv
-
-  module _ (h : i < length s) (u : Bool) (r : u ≡ between 33 126 (get_or s i 0)) where
-    pub visible_not : u ≡ false → false ≡ x
-    unfolding all_visible
-    visible_not q = rw (next s i h, ← r, q) at inv
-
-    pub visible_more : u ≡ true → all_visible (drop (i + 1) s) ≡ x
-    unfolding all_visible
-    visible_more q = rw (next s i h, ← r, q) at inv
-
-pub ruleset visibles = (visible_all, visible_not, visible_more)
+use Rattle.configuration.specs.Private.{right_place}
+use Rattle.configuration.proofs.EntryLaws.{length_codecs}
 
 -- ---- packet times
 pub times_order : (least most : ℕ) → Fits w8 most → 1 ≤ least → leb least most ≡ right_times least most
@@ -47,11 +32,13 @@ and_swap false b p q = refl
 and_swap true false p q = sym (and-false p)
 and_swap true true p q = refl
 
--- the first entry, and those after it
-first_decides : (k : Place) (ks : List Place) (rs : List Codec)
-    → (all_formats_inside (k ∷ ks) && all_right (codec_by k ∷ rs)) ≡ ((format_inside k.format && right_codec (codec_by k)) && (all_formats_inside ks && all_right rs))
+-- the code asks both of each entry
+both_all : (ks : List Place) → list_all right_place ks ≡ (all_formats_inside ks && all_right (map codec_by ks))
 unfolding all_formats_inside all_right
-first_decides k ks rs = and_swap (format_inside k.format) (all_formats_inside ks) (right_codec (codec_by k)) (all_right rs)
+both_all [] = refl
+both_all (k ∷ ks) =
+    rw (both_all ks)
+    (and_swap (format_inside k.format) (right_codec (codec_by k)) (all_formats_inside ks) (all_right (map codec_by ks)))
 
 module _ (c : Config) where
   pub codecs_none : c.count < 1 → false ≡ (config_inside c && right_codecs (codecs_by c))
@@ -64,37 +51,15 @@ module _ (c : Config) where
   unfolding config_inside
   codecs_many h = rw (lt-leb c.count 8 h)
 
-  module _ (eight : length c.codecs ≡ 8) (few : c.count ≤ 8) where
-    l : c.count ≡ length (codecs_by c)
-    l = (count_few c eight few).is
+  pub codecs_all : (u : Bool) → length c.codecs ≡ 8 → 1 ≤ c.count → c.count ≤ 8 → u ≡ list_all right_place (take (c.count - 0) (drop 0 c.codecs))
+      → u ≡ (config_inside c && right_codecs (codecs_by c))
+  unfolding config_inside right_codecs codecs_by
+  codecs_all u eight h few e =
+      let n : c.count - 0 ≡ c.count = omega arith in
+      let l : c.count ≡ length (map codec_by (take c.count c.codecs)) = omega (arith, length-map (take c.count c.codecs) codec_by, length-take c.count c.codecs) in
+      rw (← l, le-leb 1 c.count h, le-leb c.count 8 few) (rw n at e ∙ both_all (take c.count c.codecs))
 
-    pub codecs_start : 1 ≤ c.count
-        → (all_formats_inside (take c.count c.codecs) && all_right (codecs_by c)) ≡ (config_inside c && right_codecs (codecs_by c))
-    unfolding config_inside right_codecs
-    codecs_start h = rw (← l, le-leb 1 c.count h, le-leb c.count 8 few)
-
-    -- x is what all entries say, and those from i on decide
-    module _ (i : ℕ) (x : Bool) (inv : (all_formats_inside (drop i (take c.count c.codecs)) && all_right (drop i (codecs_by c))) ≡ x) where
-      pub codecs_all : c.count ≤ i → true ≡ x
-      unfolding all_formats_inside all_right
-      codecs_all h =
-          let z : length (take c.count c.codecs) ≤ i = simp length-take (omega arith) in
-          rw (drop_of_length-le (take c.count c.codecs) z, drop_of_length-le (codecs_by c) {i = i} (omega (arith, l))) at inv
-
-      module _ (h : i < c.count) (d : Place) (u : Bool)
-          (r : u ≡ (format_inside (get_or c.codecs i d).format && right_codec (codec_by (get_or c.codecs i d)))) where
-        turn : (u && (all_formats_inside (drop (i + 1) (take c.count c.codecs)) && all_right (drop (i + 1) (codecs_by c)))) ≡ x
-        turn =
-            let z : i < length (codecs_by c) = omega (arith, l) in
-            rw r (rw (drop_places c i d z, drop_codecs c i d z, first_decides) at inv)
-
-        pub codecs_not : u ≡ false → false ≡ x
-        codecs_not q = rw q at turn
-
-        pub codecs_more : u ≡ true → (all_formats_inside (drop (i + 1) (take c.count c.codecs)) && all_right (drop (i + 1) (codecs_by c))) ≡ x
-        codecs_more q = rw q at turn
-
-pub ruleset codecs_right = (codecs_none, codecs_many, codecs_start, codecs_all, codecs_not, codecs_more)
+pub ruleset codecs_right = (codecs_none, codecs_many, codecs_all)
 
 -- ---- all but the codecs
 module _ (c : Config) where
@@ -123,7 +88,7 @@ pub ruleset generals = (general_port, general_own, general_times, general_t1, ge
 
 -- ---- the configuration
 module _ (c : Config) where
-  pub check_general : right_general (configuration_by c) ≡ false → Refused 12 ≡ checked c
+  pub check_general : right_general (configuration_by c) ≡ false → Err BadConfiguration ≡ checked c
   unfolding checked right_config right_configuration
   check_general h = simp (h, and-false)
 
@@ -132,11 +97,11 @@ module _ (c : Config) where
     unfolding right_config right_configuration configuration_by
     right_is = rw g
 
-    pub check_codecs : (config_inside c && right_codecs (codecs_by c)) ≡ false → Refused 12 ≡ checked c
+    pub check_codecs : (config_inside c && right_codecs (codecs_by c)) ≡ false → Err BadConfiguration ≡ checked c
     unfolding checked
     check_codecs h = rw (← right_is, h)
 
-    pub check_all : (config_inside c && right_codecs (codecs_by c)) ≡ true → Usable ≡ checked c
+    pub check_all : (config_inside c && right_codecs (codecs_by c)) ≡ true → Ok tt ≡ checked c
     unfolding checked
     check_all h = rw (← right_is, h)
 

@@ -47,7 +47,7 @@ module _ (f : Format) (name : List ℕ) (n : ℕ) (q : f ≡ Named n) where
   unfolding format_by names
   names_low p t h = rw (q, lt-leb 96 p h)
 
-  pub right_long : most_name < n → false ≡ (format_inside f && right_codec (format_by f name))
+  pub right_long : most_name < n → leb n most_name ≡ (format_inside f && right_codec (format_by f name))
   unfolding format_inside
   right_long h = rw (q, lt-leb n most_name h)
 

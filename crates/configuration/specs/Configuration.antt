@@ -1,6 +1,7 @@
 -- Document 01, "One endpoint", first paragraph: an endpoint's configuration, when it is valid (otherwise it is refused by 12), and
 -- which codec a command or a message names.
-use Rattle.std.specs.Prelude.{ℕ, zero, suc, List, [], ◌∷◌, Bool, true, false, ◌&&◌, ◌||◌, length, eqb, leb}
+use Rattle.std.specs.Prelude.{ℕ, zero, suc, List, [], ◌∷◌, Bool, ◌&&◌, ◌||◌, length, eqb, leb}
+use Rattle.std.specs.List.{list_all, list_any}
 use Rattle.std.proofs.Math.Option.{Option, none, some}
 use Rattle.octets.specs.Words.{same}
 use Rattle.address.specs.declared.Address.{Address}
@@ -29,8 +30,7 @@ between a b n = leb a n && leb n b
 -- ---- valid configurations
 -- each octet is 33 to 126
 unfoldable pub all_visible : List ℕ → Bool
-all_visible [] = true
-all_visible (b ∷ bs) = between 33 126 b && all_visible bs
+all_visible s = list_all (between 33 126) s
 
 -- the longest encoding name
 abbrev pub most_name : ℕ
@@ -41,8 +41,7 @@ right_codec (fixed n) = leb n 95
 right_codec (named t) = between 1 most_name (length t) && all_visible t
 
 unfoldable pub all_right : List Codec → Bool
-all_right [] = true
-all_right (k ∷ ks) = right_codec k && all_right ks
+all_right ks = list_all right_codec ks
 
 -- packet times: 1 ≤ least ≤ most ≤ 255
 unfoldable pub right_times : ℕ → ℕ → Bool
@@ -90,8 +89,7 @@ names (named t) payload text = leb 96 payload && same t text
 
 -- payload and rtpmap text name one of the entries
 unfoldable pub named_in : List Codec → ℕ → List ℕ → Bool
-named_in [] payload text = false
-named_in (k ∷ ks) payload text = names k payload text || named_in ks payload text
+named_in ks payload text = list_any (λ k. names k payload text) ks
 
 -- a packet time is in range
 abbrev pub ptime_in_range : Configuration → ℕ → Bool

@@ -1,10 +1,9 @@
 -- Private: used only by private functions of this crate.
-use Rattle.std.specs.Prelude.{ℕ, ◌≤◌, ◌≡◌, length}
-use Rattle.configuration.specs.declared.Config.{Config}
-use Rattle.configuration.specs.Configuration.{most_codecs}
-use Rattle.configuration.specs.Meaning.{codecs_by}
+use Rattle.std.specs.Prelude.{Bool, ◌&&◌}
+use Rattle.configuration.specs.declared.Codec.{Codec as Place}
+use Rattle.configuration.specs.Configuration.{right_codec}
+use Rattle.configuration.specs.Meaning.{codec_by, format_inside}
 
--- r is how many entries there are; the bound is the array's, stated for the callers
-pub record EntryCount (c : Config) (r : ℕ) : Type 0 where
-  pub is : r ≡ length (codecs_by c)
-  pub few : r ≤ most_codecs
+-- an entry is valid, and its name lies inside its array
+abbrev pub right_place : Place → Bool
+right_place k = format_inside k.format && right_codec (codec_by k)

@@ -1,48 +1,34 @@
 // Whether a configuration is valid.
 ghost use Rattle.std.specs.Prelude.{◌≡◌, ◌&&◌, length};
+ghost use Rattle.std.specs.List.{list_all};
 ghost use Rattle.configuration.specs.Configuration.{between, most_name, all_visible, right_codec, right_times, right_codecs, right_general};
 ghost use Rattle.configuration.specs.Meaning.{codec_by, codecs_by, configuration_by, format_inside, config_inside, checked};
+ghost use Rattle.configuration.specs.Private.{right_place};
 
-use crate::{Checked, Codec, Config, Format, MOST_CODECS, MOST_NAME};
+use crate::{Codec, Config, Format, MOST_CODECS, MOST_NAME};
+use octets::Refusal;
 use octets::spans::up_to;
 
 // n is from a to b.
 fn is_between(a: u8, b: u8, n: u8) -> bool
     ensures { result ≡ between a b n }
 {
-    if n < a {
-        return false;
-    }
-    n <= b
+    a <= n && n <= b
 }
 
 // Each octet of s is 33 to 126.
+#[tactic(auto, unfolding(crate::specs::Configuration::all_visible))]
 fn all_visible(s: &[u8]) -> bool
     ensures { result ≡ all_visible s.now }
 {
-    let mut i = 0;
-    while i < s.len() {
-        let b = s[i];
-        if is_between(33, 126, b) {
-            i += 1;
-        } else {
-            return false;
-        }
-    }
-    true
+    s.iter().all(|b| is_between(33, 126, *b))
 }
 
 // s can be an encoding name.
 fn right_name(s: &[u8]) -> bool
     ensures { result ≡ (between 1 most_name (length s.now) && all_visible s.now) }
 {
-    if s.len() < 1 {
-        return false;
-    }
-    if MOST_NAME < s.len() {
-        return false;
-    }
-    all_visible(s)
+    1 <= s.len() && s.len() <= MOST_NAME && all_visible(s)
 }
 
 // The entry is valid, and its name lies inside its array.
@@ -53,13 +39,15 @@ pub fn right_codec(k: Codec) -> bool
     let name = k.name;
     match format {
         Format::Payload(n) => n <= 95,
-        Format::Named(n) => {
-            if MOST_NAME < n {
-                return false;
-            }
-            right_name(up_to(&name, n))
-        }
+        Format::Named(n) => n <= MOST_NAME && right_name(up_to(&name, n)),
     }
+}
+
+// Each of the entries is valid.
+fn all_right(ks: &[Codec]) -> bool
+    ensures { result ≡ list_all right_place ks.now }
+{
+    ks.iter().all(|k| right_codec(*k))
 }
 
 // There are one to eight entries, each of them valid.
@@ -67,60 +55,34 @@ fn right_codecs(c: Config) -> bool
     ensures { result ≡ (config_inside c && right_codecs (codecs_by c)) }
 {
     let n = c.count;
-    if n < 1 {
-        return false;
-    }
-    if MOST_CODECS < n {
-        return false;
-    }
-    let mut i = 0;
-    while i < n {
-        let k = c.codecs[i];
-        if right_codec(k) {
-            i += 1;
-        } else {
-            return false;
-        }
-    }
-    true
+    let codecs = c.codecs;
+    1 <= n && n <= MOST_CODECS && all_right(&codecs[..n])
 }
 
 // The packet times are 1 or more, least not above most.
 fn right_times(least: u8, most: u8) -> bool
     ensures { result ≡ right_times least most }
 {
-    if least < 1 {
-        return false;
-    }
-    least <= most
+    1 <= least && least <= most
 }
 
 // All but the codecs is valid.
 pub fn right_general(c: Config) -> bool
     ensures { result ≡ right_general (configuration_by c) }
 {
-    let own = c.own;
-    if c.port < 1 {
-        return false;
-    }
-    if address::is_unicast(own) {
-        if right_times(c.least, c.most) {
-            if is_between(1, 30, c.t1) {
-                return is_between(1, 30, c.t2);
-            }
-        }
-    }
-    false
+    1 <= c.port
+        && address::is_unicast(c.own)
+        && right_times(c.least, c.most)
+        && is_between(1, 30, c.t1)
+        && is_between(1, 30, c.t2)
 }
 
-// Document 01's number 12 for a configuration that is not valid.
-pub fn check(c: Config) -> Checked
+// Refuses a configuration that is not valid.
+pub fn check(c: Config) -> Result<(), Refusal>
     ensures { result ≡ checked c }
 {
-    if right_general(c) {
-        if right_codecs(c) {
-            return Checked::Usable;
-        }
+    if right_general(c) && right_codecs(c) {
+        return Ok(());
     }
-    Checked::Refused(12)
+    Err(Refusal::BadConfiguration)
 }

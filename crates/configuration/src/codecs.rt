@@ -1,11 +1,11 @@
 // The codec entries of a configuration.
-ghost use Rattle.std.specs.Prelude.{◌≡◌};
+ghost use Rattle.std.specs.Prelude.{◌≡◌, take};
+ghost use Rattle.std.specs.List.{list_any};
 ghost use Rattle.octets.specs.Append.{Appends};
 ghost use Rattle.configuration.specs.Configuration.{suits, name_of, names, named_in};
 ghost use Rattle.configuration.specs.Meaning.{codec_by, codecs_by, blank_codec, FoundAt};
-ghost use Rattle.configuration.specs.Private.{EntryCount};
 
-use crate::{Codec, Config, Format, FoundCodec, MOST_CODECS, MOST_NAME};
+use crate::{Codec, Config, Format, MOST_CODECS, MOST_NAME};
 use octets::append::push;
 use octets::spans::up_to;
 use octets::words::equals;
@@ -17,12 +17,7 @@ pub fn suits_entry(k: Codec, payload: u16) -> bool
     let format = k.format;
     match format {
         Format::Payload(n) => payload == n as u16,
-        Format::Named(_) => {
-            if payload < 96 {
-                return false;
-            }
-            payload <= 127
-        }
+        Format::Named(_) => 96 <= payload && payload <= 127,
     }
 }
 
@@ -46,63 +41,38 @@ fn names_entry(k: Codec, payload: u8, text: &[u8]) -> bool
     let name = k.name;
     match format {
         Format::Payload(n) => payload == n,
-        Format::Named(n) => {
-            if payload < 96 {
-                return false;
-            }
-            equals(up_to(&name, n), text)
-        }
+        Format::Named(n) => 96 <= payload && equals(up_to(&name, n), text),
     }
 }
 
-// The number of entries, at most as many as the array holds.
-fn entries(c: Config) -> usize
-    ensures { EntryCount c result }
+// The entries, at most as many as the array holds.
+fn entries(c: &Config) -> &[Codec]
+    ensures { result.now ≡ take c.now.count c.now.codecs }
 {
-    let n = c.count;
-    if MOST_CODECS < n {
-        return MOST_CODECS;
-    }
-    n
+    &c.codecs[..c.count.min(MOST_CODECS)]
+}
+
+// A message's payload and rtpmap text name one of the codecs.
+fn any_named(codecs: &[Codec], payload: u8, text: &[u8]) -> bool
+    ensures { result ≡ list_any (λ k. names (codec_by k) payload text.now) codecs.now }
+{
+    codecs.iter().any(|k| names_entry(*k, payload, text))
 }
 
 // A message's payload and rtpmap text name one of the entries.
 pub fn names_any(c: Config, payload: u8, text: &[u8]) -> bool
     ensures { result ≡ named_in (codecs_by c) payload text.now }
 {
-    let n = entries(c);
-    let mut i = 0;
-    while i < n {
-        let k = c.codecs[i];
-        if names_entry(k, payload, text) {
-            return true;
-        }
-        i += 1;
-    }
-    false
+    any_named(entries(&c), payload, text)
 }
 
-// Codec entry n, counted from 1; blank if there is none.
-pub fn entry_at(c: Config, n: u16) -> FoundCodec
+// Codec entry n, counted from 1.
+pub fn entry_at(c: Config, n: u16) -> Option<Codec>
     ensures { FoundAt c n result }
 {
-    let count = entries(c);
-    let at = n as usize;
-    if at < 1 {
-        return FoundCodec {
-            known: false,
-            codec: blank(),
-        };
-    }
-    if count < at {
-        return FoundCodec {
-            known: false,
-            codec: blank(),
-        };
-    }
-    let i = at - 1;
-    let codec = c.codecs[i];
-    FoundCodec { known: true, codec }
+    let i = (n as usize).checked_sub(1)?;
+    let codecs = entries(&c);
+    codecs.get(i).copied()
 }
 
 // A blank entry: payload 0, with zeros for a name.

@@ -44,31 +44,9 @@ pub struct Config {
     pub codecs: [Codec; MOST_CODECS],
 }
 
-// Whether a configuration is valid, or document 01's number.
-#[derive(Clone, Copy)]
-pub enum Checked {
-    Usable,
-    Refused(u8),
-}
-
-// A codec entry that was looked up; the codec is blank if it is not known.
-#[derive(Clone, Copy)]
-pub struct FoundCodec {
-    pub known: bool,
-    pub codec: Codec,
-}
-
 // The packet time n is in range, or 0 for none.
 pub fn none_or_in_range(c: Config, n: u16) -> bool
     ensures { result ≡ ptime_none_or_in_range (configuration_by c) n }
 {
-    let least = c.least as u16;
-    let most = c.most as u16;
-    if n == 0 {
-        return true;
-    }
-    if n < least {
-        return false;
-    }
-    n <= most
+    n == 0 || c.least as u16 <= n && n <= c.most as u16
 }
