@@ -13,7 +13,7 @@ use borrow.Author.Tests.{leb-true}
 use Rattle.octets.proofs.PutsLaws.{puts_no, puts_some}
 use Rattle.octets.proofs.CaseLaws.{by_bool}
 use Rattle.bat_write.specs.Code as code
-use Rattle.octets.specs.declared.Put.TheVariants.{Octets}
+use Rattle.std.specs.Prelude.{Ok}
 use Rattle.bat.specs.Framing.{most_octets}
 use Rattle.bat.specs.Values.{InnerCodec, Value, codecs, all_codecs, codecs_in, meant}
 use Rattle.octets.specs.Puts.{Puts}
@@ -26,7 +26,7 @@ use Rattle.bat_write.specs.Back.{ElementBack, WrittenBack}
 use Rattle.bat_write.proofs.SelectedLaws.{selected_is}
 
 -- octets that are read back as v are read back from the buffer that they are put into
-pub element_back : (c : ℕ) (v : Value) (l : List ℕ) (n : ℕ) (f : List ℕ) → ReadBack c v (drop (length (value_text c v)) l) → Puts (some (value_text c v)) l (Octets n) f → ElementBack v c n f
+pub element_back : (c : ℕ) (v : Value) (l : List ℕ) (n : ℕ) (f : List ℕ) → ReadBack c v (drop (length (value_text c v)) l) → Puts (some (value_text c v)) l (Ok n) f → ElementBack v c n f
 element_back c v l n f back p =
     let t = value_text c v in
     let (count, leaves) = puts_some t l n f p in
@@ -42,7 +42,7 @@ element_back c v l n f back p =
 
 module _ (c : ℕ) (l : List ℕ) (n : ℕ) (f : List ℕ) where
   -- what can be written is
-  back_some : (v : Value) → Puts (element_octets (meant c) v) l (Octets n) f → ElementBack v (meant c) n f
+  back_some : (v : Value) → Puts (element_octets (meant c) v) l (Ok n) f → ElementBack v (meant c) n f
   unfolding element_octets
   back_some v p =
       let t = value_text (meant c) v in
@@ -53,7 +53,7 @@ module _ (c : ℕ) (l : List ℕ) (n : ℕ) (f : List ℕ) where
       (λ h. absurd (puts_no l n f (rw h at p)))
 
 module _ (s : List ℕ) (v : code.Value) (c : ℕ) (l : List ℕ) (n : ℕ) (f : List ℕ) where
-  back_of : (o : Option Value) → value_in s v ≡ o → Puts (element_octets_in (meant c) o) l (Octets n) f → WrittenBack s v c n f
+  back_of : (o : Option Value) → value_in s v ≡ o → Puts (element_octets_in (meant c) o) l (Ok n) f → WrittenBack s v c n f
   unfolding element_octets_in
   back_of none is p = absurd (puts_no l n f p)
   back_of (some w) is p =
@@ -68,10 +68,10 @@ module _ (s : List ℕ) (v : code.Value) (c : ℕ) (l : List ℕ) (n : ℕ) (f :
         decodes = b.decodes;
       }
 
-  pub written_back : Puts (element_octets_in (meant c) (value_in s v)) l (Octets n) f → WrittenBack s v c n f
+  pub written_back : Puts (element_octets_in (meant c) (value_in s v)) l (Ok n) f → WrittenBack s v c n f
   written_back p = back_of (value_in s v) refl p
 
 module _ (ms s : List ℕ) (cs : List InnerCodec) (c : ℕ) (l : List ℕ) (n : ℕ) (f : List ℕ) where
-  pub selected_back : codecs_in s ≡ all_codecs cs → Puts (element_octets_in (meant c) (selected_list ms s)) l (Octets n) f → ElementBack (codecs (selected ms cs)) (meant c) n f
+  pub selected_back : codecs_in s ≡ all_codecs cs → Puts (element_octets_in (meant c) (selected_list ms s)) l (Ok n) f → ElementBack (codecs (selected ms cs)) (meant c) n f
   unfolding element_octets_in
   selected_back e p = back_some c l n f (codecs (selected ms cs)) (rw (selected_is ms s cs e) at p)

@@ -3,34 +3,32 @@
 use Prim.Native.Nat.{ℕ, ◌+◌, ◌≤◌, ◌<◌}
 use mathlib.Core.Path.{◌≡◌, refl, sym, ap, ◌∙◌}
 use mathlib.Core.List.{List, [], ◌∷◌, ◌++◌}
-use mathlib.Core.Bool.{true, false, cond, and-eq-true_iff}
+use mathlib.Core.Bool.{Bool, true, false, cond, and-eq-true_iff}
 use mathlib.Core.Option.{some}
-use lib.ListN.{length, drop, drop_of_length-le}
-use lib.Seq.{drop-drop}
+use lib.ListN.{length, drop}
 use lib.Dec.{eqb}
 use native.Mathlib.Omega.{arith}
 use borrow.Author.Tests.{lt-ltb, le-leb}
 use Rattle.octets.specs.Append.{Appends}
 use Rattle.octets.proofs.AppendLaws.{append_nil, append_then}
 use Rattle.octets.proofs.CaseLaws.{by_bool}
+use Rattle.std.specs.Prelude as std
+use Rattle.std.specs.Prelude.{Result, Ok, Err, Some, None, is_none}
 use Rattle.bat.specs.declared.Frame.{Frame}
-use Rattle.bat.specs.declared.Framed.{Framed}
-use Rattle.bat.specs.declared.Framed.TheVariants.{Whole, Unframed, Ended}
+use Rattle.bat.specs.declared.Unframed.{Unframed}
 use Rattle.bat.specs.Framing.{octet, Element, whole, first, unframed, ended, front, walk}
 use Rattle.bat.specs.Values.{InnerCodec, Codecs, all_codecs, offence, with_single, on_codecs, is_single, codec_then, codecs_in, inner_codec, right_single, single_codec, meant}
 use Rattle.bat.specs.Writing.{element_text, codec_text, codecs_text, contents_text, inner_codecs_in_range, value_in_range}
 use Rattle.bat.specs.FramingMeaning.{element_in, front_in, WholeLength}
 use Rattle.bat.proofs.WalkLaws.{size_small, front_size, front_nil, walk_ended, walk_unframed, walk_first, fold_ended, fold_unframed, fold_first, by_front}
-use Rattle.bat.proofs.CountLaws.{frame_ended, frame_unframed, frame_first}
+use Rattle.bat.proofs.CountLaws.{frame_ended, frame_unframed, frame_first, ok_is}
 use Rattle.bat.proofs.DecodedLaws.{codecs_kept}
-use Rattle.bat_read.specs.declared.Offence.{Offence}
-use Rattle.bat_read.specs.declared.Offence.TheVariants.{At, Nowhere}
 use Rattle.bat_read.specs.Examining.{offence_of}
 use Rattle.bat_write.specs.Selected.{selected}
 use Rattle.bat_write.specs.Private.{list_of, codecs_of, value_in_range_in, contents_in, codecs_anew, codec_if, selected_then, selected_anew}
 
 -- ---- the contents of an element have at most 2,046 octets
-pub contents_small : (t : List ℕ) (x : Framed) (f : Frame) (w : ℕ) (u : List ℕ) → front_in t x ≡ some (front t) → x ≡ Whole f → WholeLength f w → u ≡ (element_in t f).contents → length u ≤ 2046
+pub contents_small : (t : List ℕ) (x : Result (std.Option Frame) Unframed) (f : Frame) (w : ℕ) (u : List ℕ) → front_in t x ≡ some (front t) → x ≡ Ok (Some f) → WholeLength f w → u ≡ (element_in t f).contents → length u ≤ 2046
 contents_small t x f w u is e l c =
     let (small, _, _, _) = size_small (drop 1 t) _ _ _ (front_size t (element_in t f) (drop w t) (frame_first t x is f e w l)) in
     rw c (omega arith)
@@ -143,49 +141,43 @@ unfolding on_codecs value_in_range_in value_in_range codecs_in
 codecs_none [] h = rw (walk_ended codec_then offence (all_codecs []) 0 [] front_nil)
 codecs_none (b ∷ s) h = absurd (omega arith)
 
-codecs_with : (s : List ℕ) (y : Codecs) → codecs_in s ≡ y → offence_of y ≡ Nowhere → 1 ≤ length s → true ≡ value_in_range_in (list_of y)
+codecs_with : (s : List ℕ) (y : Codecs) → codecs_in s ≡ y → offence_of y ≡ None → 1 ≤ length s → true ≡ value_in_range_in (list_of y)
 unfolding offence_of on_codecs value_in_range_in value_in_range
 codecs_with s (all_codecs cs) p e h = let z = codecs_kept s cs p in rw (le-leb 1 (length cs) (z.lists h), z.ranges)
 codecs_with s (offence d) p e h = absurd (let z : ◌≡◌ {A = ℕ} 0 1 = cc in omega arith)
 
-codecs_without : (y : Codecs) (d : ℕ) → offence_of y ≡ At d → false ≡ value_in_range_in (list_of y)
+codecs_without : (y : Codecs) (d : ℕ) → offence_of y ≡ Some d → false ≡ value_in_range_in (list_of y)
 unfolding offence_of on_codecs value_in_range_in
 codecs_without (all_codecs cs) d e = absurd (let z : ◌≡◌ {A = ℕ} 0 1 = cc in omega arith)
 codecs_without (offence n) d e = refl
 
-module _ (s : List ℕ) (x : Offence) (is : x ≡ offence_of (codecs_in s)) where
-  pub codecs_all : x ≡ Nowhere → 1 ≤ length s → true ≡ value_in_range_in (codecs_of s)
-  codecs_all e h = codecs_with s (codecs_in s) refl (sym is ∙ e) h
+codecs_are : (s : List ℕ) (x : std.Option ℕ) → x ≡ offence_of (codecs_in s) → 1 ≤ length s → is_none x ≡ value_in_range_in (codecs_of s)
+codecs_are s None is h = codecs_with s (codecs_in s) refl (sym is) h
+codecs_are s (Some d) is h = codecs_without (codecs_in s) d (sym is)
 
-  pub codecs_offence : (d : ℕ) → x ≡ At d → false ≡ value_in_range_in (codecs_of s)
-  codecs_offence d e = codecs_without (codecs_in s) d (sym is ∙ e)
+pub codecs_tested : (s : List ℕ) (x : std.Option ℕ) (b : Bool) → b ≡ is_none x → x ≡ offence_of (codecs_in s) → 1 ≤ length s → b ≡ value_in_range_in (codecs_of s)
+codecs_tested s x b e is h = e ∙ codecs_are s x is h
 
 -- ---- one after the other
--- At the place i of s the buffer has `out` to k: whatever goes on from there with the rest ends as all of s does.
-module _ (s out out₀ : List ℕ) (at i k : ℕ) (inv : (r : ℕ) (g : List ℕ) → Appends out k (codecs_anew (drop i s)) r g → Appends out₀ at (codecs_anew s) r g) where
-  done : codecs_anew (drop i s) ≡ [] → Appends out₀ at (codecs_anew s) k out
+-- The buffer has `out` to k, and s is left of s₀: whatever goes on from there with the rest ends as all of s₀ does.
+module _ (s₀ out₀ s out : List ℕ) (at k : ℕ) (inv : (r : ℕ) (g : List ℕ) → Appends out k (codecs_anew s) r g → Appends out₀ at (codecs_anew s₀) r g) (x : Result (std.Option Frame) Unframed) (is : front_in s x ≡ some (front s)) where
+  done : codecs_anew s ≡ [] → Appends out₀ at (codecs_anew s₀) k out
   done e = inv k out (rw e (append_nil out k))
 
-  pub codecs_end : length s ≤ i → Appends out₀ at (codecs_anew s) k out
-  codecs_end h = done (rw (drop_of_length-le s {i = i} h) (anew_ended [] front_nil))
+  pub codecs_ended : x ≡ Ok None → Appends out₀ at (codecs_anew s₀) k out
+  codecs_ended e = done (anew_ended s (frame_ended s x is e))
 
-  module _ (t : List ℕ) (here : t ≡ drop i s) (x : Framed) (is : front_in t x ≡ some (front t)) where
-    pub codecs_ended : x ≡ Ended → Appends out₀ at (codecs_anew s) k out
-    codecs_ended e = done (rw (← here) (anew_ended t (frame_ended t x is e)))
+  pub codecs_unframed : (u : Unframed) → x ≡ Err u → Appends out₀ at (codecs_anew s₀) k out
+  codecs_unframed u e = done (anew_unframed s (frame_unframed s x is u e))
 
-    pub codecs_unframed : x ≡ Unframed → Appends out₀ at (codecs_anew s) k out
-    codecs_unframed e = done (rw (← here) (anew_unframed t (frame_unframed t x is e)))
+  pub codecs_more : (f : Frame) → x ≡ Ok (Some f) → (w : ℕ) → WholeLength f w → (u : List ℕ) → u ≡ (element_in s f).contents → (t : List ℕ) → t ≡ drop w s
+      → (m : ℕ) (h : List ℕ) → Appends out k (element_text 5 (meant f.compatibility) u) m h
+      → (r : ℕ) (g : List ℕ) → Appends h m (codecs_anew t) r g → Appends out₀ at (codecs_anew s₀) r g
+  unfolding element_in
+  codecs_more f e w l u c t after m h p r g q =
+      let a = element_text 5 (meant f.compatibility) (element_in s f).contents in
+      let is_first : codecs_anew s ≡ a ++ codecs_anew t = anew_first s (element_in s f) (drop w s) (frame_first s x is f e w l) ∙ rw after in
+      let p' : Appends out k a m h = rw c at p in
+      inv r g (rw is_first (append_then out h g a (codecs_anew t) k m r q p'))
 
-    module _ (f : Frame) (e : x ≡ Whole f) (w : ℕ) (l : WholeLength f w) (u : List ℕ) (c : u ≡ (element_in t f).contents) where
-      pub codecs_more : (m : ℕ) (h : List ℕ) → Appends out k (element_text 5 (meant f.compatibility) u) m h
-          → (r : ℕ) (g : List ℕ) → Appends h m (codecs_anew (drop (i + w) s)) r g → Appends out₀ at (codecs_anew s) r g
-      unfolding element_in
-      codecs_more m h p r g q =
-          let a = element_text 5 (meant f.compatibility) (element_in t f).contents in
-          let is_first : codecs_anew t ≡ a ++ codecs_anew (drop w t) = anew_first t (element_in t f) (drop w t) (frame_first t x is f e w l) in
-          let rest : drop (i + w) s ≡ drop w t = rw (here, drop-drop w i s) in
-          let p' : Appends out k a m h = rw c at p in
-          let q' : Appends h m (codecs_anew (drop w t)) r g = rw rest at q in
-          inv r g (rw (← here, is_first) (append_then out h g a (codecs_anew (drop w t)) k m r q' p'))
-
-pub ruleset listing = (codecs_end, codecs_ended, codecs_unframed, codecs_more)
+pub ruleset listing = (codecs_ended, codecs_unframed, codecs_more, ok_is)

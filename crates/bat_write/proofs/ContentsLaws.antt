@@ -11,6 +11,7 @@ use mir.Syntax.{w8}
 use mir.Val.{Fits}
 use borrow.Author.Tests.{leb-true, ltb-true}
 use Rattle.codes.specs.Codes.{is_signal}
+use Rattle.std.specs.Prelude.{Option, Some, None}
 use Rattle.octets.specs.declared.Span.{Span}
 use Rattle.octets.specs.Spans.{text_of}
 use Rattle.octets.specs.Append.{Appends}
@@ -27,7 +28,7 @@ use Rattle.bat_write.proofs.CodecLaws.{codecs_text_lem}
 meant_seven : (c : ℕ) → seven_bits c ≡ true → meant c ≡ c
 meant_seven c h = omega (arith, ltb-true c 128 h)
 
-pub signal_lasts : (t : code.InnerType) (d : code.InnerDuration) → (inner_type_in_range (inner_type_in t) && inner_duration_in_range (inner_duration_in d)) ≡ true → inner_duration_in_range (inner_duration_in d) ≡ true
+pub signal_lasts : (t : code.InnerType) (d : Option code.InnerDuration) → (inner_type_in_range (inner_type_in t) && inner_duration_in_range (inner_duration_in d)) ≡ true → inner_duration_in_range (inner_duration_in d) ≡ true
 signal_lasts t d h = ((and-eq-true_iff (inner_type_in_range (inner_type_in t)) (inner_duration_in_range (inner_duration_in d))).0 h).1
 
 module _ (l f : List ℕ) (at r : ℕ) where
@@ -35,15 +36,15 @@ module _ (l f : List ℕ) (at r : ℕ) where
   pub octet_text : (g t u : List ℕ) (k b : ℕ) → Appends g k t r f → t ≡ u → Appends l at (b ∷ []) k g → Appends l at (b ∷ u) r f
   octet_text g t u k b q e p = rw e at (octet_then l f g at k r b t q p)
 
-  pub lasting_none : (d : code.InnerDuration) → d ≡ code.Untimed → Appends l at (inner_duration_text (inner_duration_in d)) at l
+  pub lasting_none : (d : Option code.InnerDuration) → d ≡ None → Appends l at (inner_duration_text (inner_duration_in d)) at l
   unfolding inner_duration_text inner_duration_in
   lasting_none d e = rw e (append_nil l at)
 
-  pub lasting_some : (d : code.InnerDuration) (c n : ℕ) → inner_duration_in_range (inner_duration_in d) ≡ true → d ≡ code.Lasting c n → Appends l at (element_text 15 (meant c) (sixteen_bits_text n)) r f → Appends l at (inner_duration_text (inner_duration_in d)) r f
+  pub lasting_some : (d : Option code.InnerDuration) (t : code.InnerDuration) → inner_duration_in_range (inner_duration_in d) ≡ true → d ≡ Some t → Appends l at (element_text 15 (meant t.compatibility) (sixteen_bits_text t.duration)) r f → Appends l at (inner_duration_text (inner_duration_in d)) r f
   unfolding inner_duration_text inner_duration_in inner_duration_in_range
-  lasting_some d c n h e p = let z : seven_bits c ≡ true = rw e at h in rw e (rw (meant_seven c z) at p)
+  lasting_some d t h e p = let z : seven_bits t.compatibility ≡ true = rw e at h in rw e (rw (meant_seven t.compatibility z) at p)
 
-  pub signal_then : (g : List ℕ) (k : ℕ) (d : code.InnerDuration) (t : code.InnerType) → (inner_type_in_range (inner_type_in t) && inner_duration_in_range (inner_duration_in d)) ≡ true → Appends g k (inner_duration_text (inner_duration_in d)) r f → Appends l at (element_text 14 (meant t.compatibility) (t.kind ∷ [])) k g
+  pub signal_then : (g : List ℕ) (k : ℕ) (d : Option code.InnerDuration) (t : code.InnerType) → (inner_type_in_range (inner_type_in t) && inner_duration_in_range (inner_duration_in d)) ≡ true → Appends g k (inner_duration_text (inner_duration_in d)) r f → Appends l at (element_text 14 (meant t.compatibility) (t.kind ∷ [])) k g
       → Appends l at (contents_text (signal (inner_type_in t) (inner_duration_in d))) r f
   unfolding contents_text
   signal_then g k d t h q p =
@@ -91,7 +92,7 @@ module _ (s : List ℕ) (v : code.Value) (h : value_in_range_in (value_by s v) �
       let z : (leb (length (text_of s n)) 255 && leb 1 (length (text_of s p))) ≡ true = rw e at h in
       rw q (leb-true _ _ ((and-eq-true_iff (leb (length (text_of s n)) 255) (leb 1 (length (text_of s p)))).0 z).0)
 
-  pub signal_right : (t : code.InnerType) (d : code.InnerDuration) → v ≡ code.Signal t d → (inner_type_in_range (inner_type_in t) && inner_duration_in_range (inner_duration_in d)) ≡ true
+  pub signal_right : (t : code.InnerType) (d : Option code.InnerDuration) → v ≡ code.Signal t d → (inner_type_in_range (inner_type_in t) && inner_duration_in_range (inner_duration_in d)) ≡ true
   unfolding value_by value_in_range_in value_in_range
   signal_right t d e = rw e at h
 

@@ -10,7 +10,8 @@ use borrow.Author.Tests.{lt-ltb, le-ltb, le-leb, lt-leb}
 use Rattle.octets.specs.Append.{Appends}
 use Rattle.octets.proofs.PutsLaws.{puts_none, puts_short, puts_all}
 use Rattle.octets.proofs.CaseLaws.{by_lt}
-use Rattle.octets.specs.declared.Put.TheVariants as put
+use Rattle.std.specs.Prelude.{Ok, Err}
+use Rattle.octets.specs.declared.Refusal.TheVariants.{BufferTooShort, OutOfRange}
 use Rattle.octets.specs.Puts.{bounded, Puts}
 use Rattle.bat.specs.Writing.{element_text}
 use Rattle.bat.specs.Framing.{most_octets}
@@ -35,14 +36,14 @@ module _ (i c : ℕ) (s l : List ℕ) where
   unfolding bounded
   not_long h = rw (le-leb (length (element_text i c s)) most_octets (omega (arith, length_element i c s, few_octets (length s) h)))
 
-  pub puts_long : 2044 < length s → Puts (bounded most_octets (element_text i c s)) l (put.Refused 5) l
+  pub puts_long : 2044 < length s → Puts (bounded most_octets (element_text i c s)) l (Err OutOfRange) l
   puts_long h = rw (too_long h) (puts_none l)
 
   module _ (w : ℕ) (e : w ≡ element_length (length s)) (h : length s ≤ 2044) where
-    pub puts_little : length l < w → Puts (bounded most_octets (element_text i c s)) l (put.Refused 4) l
+    pub puts_little : length l < w → Puts (bounded most_octets (element_text i c s)) l (Err BufferTooShort) l
     puts_little k = rw (not_long h) (puts_short (element_text i c s) l (omega (arith, length_element i c s)))
 
-    pub puts_whole : (r : ℕ) (f : List ℕ) → Appends l 0 (element_text i c s) r f → w ≤ length l → Puts (bounded most_octets (element_text i c s)) l (put.Octets w) f
+    pub puts_whole : (r : ℕ) (f : List ℕ) → Appends l 0 (element_text i c s) r f → w ≤ length l → Puts (bounded most_octets (element_text i c s)) l (Ok w) f
     puts_whole r f p k =
         let t = element_text i c s in
         let n : length t ≡ w = length_element i c s ∙ sym e in

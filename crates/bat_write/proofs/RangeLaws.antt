@@ -6,6 +6,7 @@ use mathlib.Core.List.{List}
 use mathlib.Core.Bool.{Bool, true, ◌&&◌}
 use lib.ListN.{length}
 use lib.Dec.{leb}
+use Rattle.std.specs.Prelude.{Option, Some, None}
 use Rattle.octets.specs.declared.Span.{Span}
 use Rattle.octets.specs.Spans.{text_of}
 use Rattle.bat_write.specs.Code as code
@@ -15,14 +16,14 @@ use Rattle.bat.specs.ValueMeaning.{inner_duration_in, value_by}
 use Rattle.bat_write.specs.Private.{codecs_of, report_of, value_in_range_in}
 
 -- ---- the duration of a signal
-module _ (d : code.InnerDuration) where
-  pub duration_none : d ≡ code.Untimed → true ≡ inner_duration_in_range (inner_duration_in d)
+module _ (d : Option code.InnerDuration) where
+  pub duration_none : d ≡ None → true ≡ inner_duration_in_range (inner_duration_in d)
   unfolding inner_duration_in inner_duration_in_range
   duration_none e = rw e
 
-  pub duration_some : (c n : ℕ) → d ≡ code.Lasting c n → seven_bits c ≡ inner_duration_in_range (inner_duration_in d)
+  pub duration_some : (t : code.InnerDuration) → d ≡ Some t → seven_bits t.compatibility ≡ inner_duration_in_range (inner_duration_in d)
   unfolding inner_duration_in inner_duration_in_range
-  duration_some c n e = rw e
+  duration_some t e = rw e
 
 -- ---- a value
 module _ (s : List ℕ) (v : code.Value) (b : Bool) where

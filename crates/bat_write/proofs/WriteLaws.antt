@@ -13,8 +13,9 @@ use Rattle.octets.specs.Append.{Appends}
 use Rattle.octets.proofs.PutsLaws.{puts_none, scratch_text}
 use Rattle.octets.proofs.CaseLaws.{by_le}
 use Rattle.bat_write.specs.Code as code
-use Rattle.octets.specs.declared.Put.{Put}
-use Rattle.octets.specs.declared.Put.TheVariants as put
+use Rattle.std.specs.Prelude.{Result, Err}
+use Rattle.octets.specs.declared.Refusal.{Refusal}
+use Rattle.octets.specs.declared.Refusal.TheVariants.{OutOfRange}
 use Rattle.bat.specs.Values.{Diagnostic, Value, Codecs, all_codecs, offence, on_codecs, codecs_in, report, diagnostics_in}
 use Rattle.octets.specs.Puts.{bounded, Puts}
 use Rattle.bat.specs.Writing.{element_text, identifier_of, value_text, element_octets, element_octets_in}
@@ -71,10 +72,10 @@ bounded_cut i c s =
     (λ h. too_long i c (take most_octets s) s (simp length-take (omega arith)) ∙ sym (too_long i c s s (omega arith)))
 
 module _ (s l : List ℕ) (c : ℕ) (v : code.Value) (t : Bool) (is : t ≡ value_in_range_in (value_by s v)) where
-  pub writes_none : t ≡ false → Puts (element_octets_in c (value_by s v)) l (put.Refused 5) l
+  pub writes_none : t ≡ false → Puts (element_octets_in c (value_by s v)) l (Err OutOfRange) l
   writes_none e = rw (octets_wrong c (value_by s v) (sym is ∙ e)) (puts_none l)
 
-  pub writes : (z g : List ℕ) (n i : ℕ) (r : Put) (f : List ℕ) → t ≡ true → Appends z 0 (contents_in (value_by s v)) n g → length z ≡ most_octets → i ≡ identifier_in v
+  pub writes : (z g : List ℕ) (n i : ℕ) (r : Result ℕ Refusal) (f : List ℕ) → t ≡ true → Appends z 0 (contents_in (value_by s v)) n g → length z ≡ most_octets → i ≡ identifier_in v
       → Puts (bounded most_octets (element_text i c (take (n - 0) (drop 0 g)))) l r f → Puts (element_octets_in c (value_by s v)) l r f
   writes z g n i r f e p h q a =
       let u = contents_in (value_by s v) in

@@ -7,9 +7,10 @@ ghost use Rattle.bat.specs.ValueMeaning.{value_by, single_codec_in, inner_type_i
 ghost use Rattle.bat_write.specs.Private.{report_of, value_in_range_in, contents_in, codecs_anew};
 
 use crate::element::push_element;
-use bat::{Framed, InnerDuration, InnerType, SingleCodec, Value};
+use bat::framing::{contents, first_element, whole_length};
+use bat::{InnerDuration, InnerType, SingleCodec, Value};
 use octets::append::{push, push_octet};
-use octets::spans::text;
+use octets::spans::{after, text};
 
 // A flag as a bit.
 fn bit(b: bool) -> u8
@@ -33,24 +34,11 @@ fn push_word(n: u16, out: &mut [u8], at: usize) -> usize
 fn push_codecs(s: &[u8], out: &mut [u8], at: usize) -> usize
     ensures { Appends out.old at (codecs_anew s.now) result out.new }
 {
-    let mut i = 0;
+    let mut rest = s;
     let mut k = at;
-    while i < s.len() {
-        let t = octets::spans::after(s, i);
-        let x = bat::framing::first_element(t);
-        match x {
-            Framed::Whole(f) => {
-                let w = bat::framing::whole_length(f);
-                k = push_element(5, f.compatibility, bat::framing::contents(t, f), out, k);
-                i += w;
-            }
-            Framed::Unframed => {
-                return k;
-            }
-            Framed::Ended => {
-                return k;
-            }
-        }
+    while let Ok(Some(f)) = first_element(rest) {
+        k = push_element(5, f.compatibility, contents(rest, f), out, k);
+        rest = after(rest, whole_length(f));
     }
     k
 }
@@ -91,24 +79,21 @@ fn push_unit(network: &[u8], local: &[u8], out: &mut [u8], at: usize) -> usize
 }
 
 // Appends the duration of a signal.
-fn push_lasting(duration: InnerDuration, out: &mut [u8], at: usize) -> usize
+fn push_lasting(duration: Option<InnerDuration>, out: &mut [u8], at: usize) -> usize
     requires { inner_duration_in_range (inner_duration_in duration) ≡ true }
     ensures { Appends out.old at (inner_duration_text (inner_duration_in duration)) result out.new }
 {
     match duration {
-        InnerDuration::Untimed => at,
-        InnerDuration::Lasting {
-            compatibility,
-            duration,
-        } => {
-            let word = [(duration / 256) as u8, (duration % 256) as u8];
-            push_element(15, compatibility, &word, out, at)
+        None => at,
+        Some(d) => {
+            let word = [(d.duration / 256) as u8, (d.duration % 256) as u8];
+            push_element(15, d.compatibility, &word, out, at)
         }
     }
 }
 
 // Appends the type and the duration of a signal.
-fn push_signal(kind: InnerType, duration: InnerDuration, out: &mut [u8], at: usize) -> usize
+fn push_signal(kind: InnerType, duration: Option<InnerDuration>, out: &mut [u8], at: usize) -> usize
     requires { (inner_type_in_range (inner_type_in kind) && inner_duration_in_range (inner_duration_in duration)) ≡ true }
     ensures { Appends out.old at (contents_text (signal (inner_type_in kind) (inner_duration_in duration))) result out.new }
 {

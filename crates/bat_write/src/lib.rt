@@ -16,8 +16,8 @@ ghost use Rattle.bat_write.specs.Selected.{selected_list};
 ghost use Rattle.bat_write.specs.Private.{identifier_in, selected_anew};
 
 use bat::{MOST_OCTETS, Value};
-use bat_read::Offence;
-use octets::Put;
+use bat_read::constructors::find_offence;
+use octets::Refusal;
 use octets::append::push_octet;
 
 // The most octets of contents: an identifier, two octets of length and one of compatibility come before them.
@@ -56,23 +56,33 @@ fn identifier(value: Value) -> u8
 }
 
 // Writes the element with these contents at the front of out.
-fn put_element(identifier: u8, compatibility: u8, contents: &[u8], out: &mut [u8]) -> Put
+fn put_element(
+    identifier: u8,
+    compatibility: u8,
+    contents: &[u8],
+    out: &mut [u8],
+) -> Result<usize, Refusal>
     ensures { Puts (bounded most_octets (element_text identifier (meant compatibility) contents.now)) out.old result out.new }
 {
     let n = contents.len();
     if MOST_CONTENTS < n {
-        return Put::Refused(5);
+        return Err(Refusal::OutOfRange);
     }
     let whole = element::whole_length(n);
     if out.len() < whole {
-        return Put::Refused(4);
+        return Err(Refusal::BufferTooShort);
     }
     element::push_element(identifier, compatibility, contents, out, 0);
-    Put::Octets(whole)
+    Ok(whole)
 }
 
 // Writes the element of a value whose spans are inside source.
-fn write_inside(value: Value, source: &[u8], compatibility: u8, out: &mut [u8]) -> Put
+fn write_inside(
+    value: Value,
+    source: &[u8],
+    compatibility: u8,
+    out: &mut [u8],
+) -> Result<usize, Refusal>
     ensures { Puts (element_octets_in (meant compatibility) (value_by source.now value)) out.old result out.new }
 {
     if ranges::in_range(value, source) {
@@ -80,52 +90,65 @@ fn write_inside(value: Value, source: &[u8], compatibility: u8, out: &mut [u8]) 
         let n = contents::push_contents(value, source, &mut scratch, 0);
         return put_element(identifier(value), compatibility, &scratch[0..n], out);
     }
-    Put::Refused(5)
+    Err(Refusal::OutOfRange)
 }
 
 // Writes the element of a value whose spans are places in source, with the compatibility bits of this octet.
-pub fn write_element(value: Value, source: &[u8], compatibility: u8, out: &mut [u8]) -> Put
+pub fn write_element(
+    value: Value,
+    source: &[u8],
+    compatibility: u8,
+    out: &mut [u8],
+) -> Result<usize, Refusal>
     ensures { Puts (element_octets_in (meant compatibility) (value_in source.now value)) out.old result out.new }
 {
     if ranges::all_inside(value, source) {
         return write_inside(value, source, compatibility, out);
     }
-    Put::Refused(5)
+    Err(Refusal::OutOfRange)
 }
 
 // Writes the element of the selected codecs of s, which have n octets, at the front of out.
-fn put_selected(s: &[u8], selection: &[u8], n: usize, compatibility: u8, out: &mut [u8]) -> Put
+fn put_selected(
+    s: &[u8],
+    selection: &[u8],
+    n: usize,
+    compatibility: u8,
+    out: &mut [u8],
+) -> Result<usize, Refusal>
     requires { n ≡ length (selected_anew selection.now s.now) }
     ensures { Puts (bounded most_octets (element_text 4 (meant compatibility) (selected_anew selection.now s.now))) out.old result out.new }
 {
     if MOST_CONTENTS < n {
-        return Put::Refused(5);
+        return Err(Refusal::OutOfRange);
     }
     let whole = element::whole_length(n);
     if out.len() < whole {
-        return Put::Refused(4);
+        return Err(Refusal::BufferTooShort);
     }
     let h = element::push_head(4, n + 1, out, 0);
     let k = push_octet(128 + compatibility % 128, out, h);
     selected::push_selected(s, selection, out, k);
-    Put::Octets(whole)
+    Ok(whole)
 }
 
 // Writes the codec list of those codecs of s that are selected, with the compatibility bits of this octet. The k-th octet of
-// `selection` is the flag of the k-th codec: 1 if it is selected; without a flag it is not. Refused by 5 if s is not the
-// contents of a codec list, if no codec is selected, or if the element would be too long; then by 4.
-pub fn write_selected(s: &[u8], selection: &[u8], compatibility: u8, out: &mut [u8]) -> Put
+// `selection` is the flag of the k-th codec: 1 if it is selected; without a flag it is not. Refused as out of range if s is
+// not the contents of a codec list, if no codec is selected, or if the element would be too long; then if out is too short.
+pub fn write_selected(
+    s: &[u8],
+    selection: &[u8],
+    compatibility: u8,
+    out: &mut [u8],
+) -> Result<usize, Refusal>
     ensures { Puts (element_octets_in (meant compatibility) (selected_list selection.now s.now)) out.old result out.new }
 {
-    let x = bat_read::constructors::find_offence(s);
-    match x {
-        Offence::At(_) => Put::Refused(5),
-        Offence::Nowhere => {
-            let n = selected::selected_length(s, selection);
-            if n == 0 {
-                return Put::Refused(5);
-            }
-            put_selected(s, selection, n, compatibility, out)
-        }
+    if find_offence(s).is_some() {
+        return Err(Refusal::OutOfRange);
     }
+    let n = selected::selected_length(s, selection);
+    if n == 0 {
+        return Err(Refusal::OutOfRange);
+    }
+    put_selected(s, selection, n, compatibility, out)
 }

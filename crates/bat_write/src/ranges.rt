@@ -7,7 +7,7 @@ ghost use Rattle.bat.specs.ValueMeaning.{value_by, single_codec_in, inner_type_i
 ghost use Rattle.bat_write.specs.Private.{codecs_of, report_of, value_in_range_in};
 
 use bat::{InnerDuration, InnerType, SingleCodec, Value};
-use bat_read::Offence;
+use bat_read::constructors::find_offence;
 use octets::Span;
 use octets::spans::{is_inside, text};
 
@@ -15,14 +15,7 @@ use octets::spans::{is_inside, text};
 fn are_codecs(s: &[u8]) -> bool
     ensures { result ≡ value_in_range_in (codecs_of s.now) }
 {
-    if s.len() < 1 {
-        return false;
-    }
-    let x = bat_read::constructors::find_offence(s);
-    match x {
-        Offence::At(_) => false,
-        Offence::Nowhere => true,
-    }
+    1 <= s.len() && find_offence(s).is_none()
 }
 
 // c is a single codec.
@@ -51,20 +44,17 @@ fn are_unit(network: &[u8], local: &[u8]) -> bool
 }
 
 // The compatibility of a signal's duration is seven bits.
-fn is_duration(duration: InnerDuration) -> bool
+fn is_duration(duration: Option<InnerDuration>) -> bool
     ensures { result ≡ inner_duration_in_range (inner_duration_in duration) }
 {
     match duration {
-        InnerDuration::Untimed => true,
-        InnerDuration::Lasting {
-            compatibility,
-            duration: _,
-        } => compatibility < 128,
+        None => true,
+        Some(d) => d.compatibility < 128,
     }
 }
 
 // The two are the type and the duration of a signal.
-fn are_signal(kind: InnerType, duration: InnerDuration) -> bool
+fn are_signal(kind: InnerType, duration: Option<InnerDuration>) -> bool
     ensures { result ≡ (inner_type_in_range (inner_type_in kind) && inner_duration_in_range (inner_duration_in duration)) }
 {
     if 128 <= kind.compatibility {

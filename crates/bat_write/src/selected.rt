@@ -5,7 +5,8 @@ ghost use Rattle.bat.specs.Values.{meant};
 ghost use Rattle.bat_write.specs.Private.{element_length, codec_if, selected_anew};
 
 use crate::element::push_element;
-use bat::Framed;
+use bat::framing::{contents, first_element, octet_at, whole_length};
+use octets::spans::after;
 
 // How many octets a codec with this flag and n octets of contents adds.
 fn length_if(flag: u8, n: usize) -> usize
@@ -33,27 +34,13 @@ fn push_if(flag: u8, compatibility: u8, contents: &[u8], out: &mut [u8], at: usi
 pub(crate) fn selected_length(s: &[u8], selection: &[u8]) -> usize
     ensures { result ≡ length (selected_anew selection.now s.now) }
 {
-    let mut i = 0;
-    let mut j = 0;
+    let mut rest = s;
+    let mut flags = selection;
     let mut n = 0;
-    while i < s.len() {
-        let t = octets::spans::after(s, i);
-        let x = bat::framing::first_element(t);
-        match x {
-            Framed::Whole(f) => {
-                let w = bat::framing::whole_length(f);
-                let flag = bat::framing::octet_at(selection, j);
-                n += length_if(flag, bat::framing::contents(t, f).len());
-                i += w;
-                j += 1;
-            }
-            Framed::Unframed => {
-                return n;
-            }
-            Framed::Ended => {
-                return n;
-            }
-        }
+    while let Ok(Some(f)) = first_element(rest) {
+        n += length_if(octet_at(flags, 0), contents(rest, f).len());
+        rest = after(rest, whole_length(f));
+        flags = after(flags, 1);
     }
     n
 }
@@ -62,27 +49,19 @@ pub(crate) fn selected_length(s: &[u8], selection: &[u8]) -> usize
 pub(crate) fn push_selected(s: &[u8], selection: &[u8], out: &mut [u8], at: usize) -> usize
     ensures { Appends out.old at (selected_anew selection.now s.now) result out.new }
 {
-    let mut i = 0;
-    let mut j = 0;
+    let mut rest = s;
+    let mut flags = selection;
     let mut k = at;
-    while i < s.len() {
-        let t = octets::spans::after(s, i);
-        let x = bat::framing::first_element(t);
-        match x {
-            Framed::Whole(f) => {
-                let w = bat::framing::whole_length(f);
-                let flag = bat::framing::octet_at(selection, j);
-                k = push_if(flag, f.compatibility, bat::framing::contents(t, f), out, k);
-                i += w;
-                j += 1;
-            }
-            Framed::Unframed => {
-                return k;
-            }
-            Framed::Ended => {
-                return k;
-            }
-        }
+    while let Ok(Some(f)) = first_element(rest) {
+        k = push_if(
+            octet_at(flags, 0),
+            f.compatibility,
+            contents(rest, f),
+            out,
+            k,
+        );
+        rest = after(rest, whole_length(f));
+        flags = after(flags, 1);
     }
     k
 }

@@ -4,11 +4,11 @@ use Rattle.bat_write.proofs.SelectedLaws.{selected_offence, selected_no, selecte
 use borrow.Author.Rules.{rules}
 use Rattle.bat_write.proofs.write_selected.Goals as goal
 
+pub returns-then-is_some : goal.returns-then-is_some
+returns-then-is_some c = search (selected_offence, rules)
+
 pub returns-then-n-eq0 : goal.returns-then-n-eq0
 returns-then-n-eq0 c = search (selected_no, rules)
 
-pub returns-in-At : goal.returns-in-At
-returns-in-At c = search (selected_offence, rules)
-
-pub returns-else-n-eq0 : goal.returns-else-n-eq0
-returns-else-n-eq0 c = search (selected_yes, rules)
+pub returns : goal.returns
+returns c = search (selected_yes, rules)

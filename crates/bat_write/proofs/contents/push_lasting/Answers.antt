@@ -4,8 +4,8 @@ use borrow.Author.Rules.{rules}
 use Rattle.bat_write.proofs.ContentsLaws.{lasting_none, lasting_some}
 use Rattle.bat_write.proofs.contents.push_lasting.Goals as goal
 
-pub returns-in-Untimed : goal.returns-in-Untimed
-returns-in-Untimed c = search (lasting_none, rules)
+pub returns-in-None : goal.returns-in-None
+returns-in-None c = search (lasting_none, rules)
 
-pub returns-in-Lasting : goal.returns-in-Lasting
-returns-in-Lasting c = search (lasting_some, rules)
+pub returns-in-Some : goal.returns-in-Some
+returns-in-Some c = search (lasting_some, rules)

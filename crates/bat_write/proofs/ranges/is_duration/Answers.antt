@@ -4,8 +4,8 @@ use borrow.Author.Rules.{rules}
 use Rattle.bat_write.proofs.RangeLaws.{duration_none, duration_some}
 use Rattle.bat_write.proofs.ranges.is_duration.Goals as goal
 
-pub returns-in-Untimed : goal.returns-in-Untimed
-returns-in-Untimed c = search (duration_none, rules)
+pub returns-in-None : goal.returns-in-None
+returns-in-None c = search (duration_none, rules)
 
-pub returns-in-Lasting : goal.returns-in-Lasting
-returns-in-Lasting c = search (duration_some, rules)
+pub returns-in-Some : goal.returns-in-Some
+returns-in-Some c = search (duration_some, rules)
