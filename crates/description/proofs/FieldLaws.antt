@@ -8,6 +8,7 @@ use mathlib.Core.Option.{none, some, map}
 use lib.Dec.{eqb}
 use native.Mathlib.Omega.{arith}
 use borrow.Author.Tests.{ne_eqb}
+use Rattle.std.specs.Prelude.{Option, Some, None}
 use Rattle.octets.specs.declared.Span.{Span}
 use Rattle.octets.specs.Spans.{text_of}
 use Rattle.octets.specs.Split.{has}
@@ -15,16 +16,12 @@ use Rattle.octets.specs.Words.{begins, same}
 use Rattle.octets.proofs.CaseLaws.{by_eq, by_bool}
 use Rattle.address.specs.declared.Address.{Address}
 use Rattle.media.specs.declared.Stream.{Stream as Places}
-use Rattle.media.specs.declared.Taken.{Taken}
-use Rattle.media.specs.declared.Taken.TheVariants.{Stream as TakenStream, Wrong as TakenWrong}
 use Rattle.media.specs.Stream.{Stream, rtpmap_word, fmtp_word, ptime_word}
 use Rattle.media.specs.Attributes.{is_attribute, attribute_of}
 use Rattle.media.specs.Meaning.{stream_by, taken_by}
 use Rattle.description.specs.declared.Preamble.{Preamble}
-use Rattle.description.specs.declared.Extended.{Extended}
-use Rattle.description.specs.declared.Extended.TheVariants.{Go, Wrong}
 use Rattle.description.specs.Draft.{Draft, needed, version_line, is_origin, origin_line, session_line, connection_line, is_time, time_line, media_line, ipbcp_word, ipbcp_line, with_stream, attribute_line, skipped_letters, after_field}
-use Rattle.description.specs.Meaning.{preamble_by, extended_by, after_ipbcp, is_ipbcp, is_skipped, preamble_line, after_media, after_media_by, LaterLine}
+use Rattle.description.specs.Meaning.{preamble_by, preamble_in, after_ipbcp, is_ipbcp, is_skipped, preamble_line, after_media, after_media_by, LaterLine}
 
 -- ---- lines that say nothing
 module _ (v : List ℕ) where
@@ -71,24 +68,24 @@ skipped_six a letter v =
 
 -- ---- before the ipbcp line: r is what the code made of the line with the value v
 module _ (v : List ℕ) (o : Preamble) (letter : ℕ) where
-  module _ (r : Extended) where
-    pub field_v : letter ≡ 118 → (w : Bool) → w ≡ same (48 ∷ []) v → extended_by r ≡ needed 0 w (preamble_by o) → extended_by r ≡ preamble_line (preamble_by o) letter v
+  module _ (r : Option Preamble) where
+    pub field_v : letter ≡ 118 → (w : Bool) → w ≡ same (48 ∷ []) v → preamble_in r ≡ needed 0 w (preamble_by o) → preamble_in r ≡ preamble_line (preamble_by o) letter v
     unfolding preamble_line is_ipbcp after_field version_line
     field_v e w p q = rw (e, ← p) q
 
-    pub field_o : letter ≡ 111 → (w : Bool) → w ≡ is_origin v → extended_by r ≡ needed 1 w (preamble_by o) → extended_by r ≡ preamble_line (preamble_by o) letter v
+    pub field_o : letter ≡ 111 → (w : Bool) → w ≡ is_origin v → preamble_in r ≡ needed 1 w (preamble_by o) → preamble_in r ≡ preamble_line (preamble_by o) letter v
     unfolding preamble_line is_ipbcp after_field origin_line
     field_o e w p q = rw (e, ← p) q
 
-    pub field_s : letter ≡ 115 → extended_by r ≡ needed 2 true (preamble_by o) → extended_by r ≡ preamble_line (preamble_by o) letter v
+    pub field_s : letter ≡ 115 → preamble_in r ≡ needed 2 true (preamble_by o) → preamble_in r ≡ preamble_line (preamble_by o) letter v
     unfolding preamble_line is_ipbcp after_field session_line
     field_s e q = rw e q
 
-    pub field_c : letter ≡ 99 → extended_by r ≡ connection_line (preamble_by o) v → extended_by r ≡ preamble_line (preamble_by o) letter v
+    pub field_c : letter ≡ 99 → preamble_in r ≡ connection_line (preamble_by o) v → preamble_in r ≡ preamble_line (preamble_by o) letter v
     unfolding preamble_line is_ipbcp after_field
     field_c e q = rw e q
 
-    pub field_t : letter ≡ 116 → (w : Bool) → w ≡ is_time v → extended_by r ≡ needed 4 w (preamble_by o) → extended_by r ≡ preamble_line (preamble_by o) letter v
+    pub field_t : letter ≡ 116 → (w : Bool) → w ≡ is_time v → preamble_in r ≡ needed 4 w (preamble_by o) → preamble_in r ≡ preamble_line (preamble_by o) letter v
     unfolding preamble_line is_ipbcp after_field time_line
     field_t e w p q = rw (e, ← p) q
 
@@ -109,12 +106,12 @@ module _ (v : List ℕ) (o : Preamble) (letter : ℕ) where
         (λ e. rw (e, is, skipped_not letter v e))
         (λ e. rw (e, is) (field_rest e))
 
-    pub field_skipped : w ≡ true → extended_by (Go o) ≡ preamble_line (preamble_by o) letter v
-    unfolding extended_by
+    pub field_skipped : w ≡ true → preamble_in (Some o) ≡ preamble_line (preamble_by o) letter v
+    unfolding preamble_in
     field_skipped e = sym (preamble_rest ∙ rw e)
 
-    pub field_other : w ≡ false → extended_by Wrong ≡ preamble_line (preamble_by o) letter v
-    unfolding extended_by
+    pub field_other : w ≡ false → preamble_in None ≡ preamble_line (preamble_by o) letter v
+    unfolding preamble_in
     field_other e = sym (preamble_rest ∙ rw e)
 
 pub ruleset fields = (field_v, field_o, field_s, field_c, field_t, field_skipped, field_other)
@@ -171,20 +168,20 @@ module _ (m : List ℕ) (s : Places) (letter : ℕ) (v : Span) where
     told : (c : Bool) → b ≡ c → begins ipbcp_word (text_of m v) ≡ c
     told c e = rw (← at) (sym p ∙ e)
 
-    pub later_ipbcp : b ≡ true → LaterLine m s letter v TakenWrong
+    pub later_ipbcp : b ≡ true → LaterLine m s letter v None
     unfolding after_field attribute_line ipbcp_line needed after_media after_media_by taken_by
     later_ipbcp e = record { is = λ a. rw (is, told true e) }
 
-    pub later_a : b ≡ false → (r : Taken) → taken_by m r ≡ attribute_of (stream_by m s) (text_of m v) → LaterLine m s letter v r
+    pub later_a : b ≡ false → (r : Option Places) → taken_by m r ≡ attribute_of (stream_by m s) (text_of m v) → LaterLine m s letter v r
     unfolding after_media_by
     later_a e r q = record { is = λ a. rw (is, q) (later_attribute a (stream_by m s) (text_of m v) (told false e)) }
 
   module _ (no : letter ≡ 97 → ⊥) (w : Bool) (is : w ≡ has letter skipped_letters) where
-    pub later_skipped : w ≡ true → LaterLine m s letter v (TakenStream s)
+    pub later_skipped : w ≡ true → LaterLine m s letter v (Some s)
     unfolding after_media_by taken_by
     later_skipped e = record { is = λ a. sym (later_rest a (stream_by m s) letter (text_of m v) no ∙ rw (← is, e)) }
 
-    pub later_other : w ≡ false → LaterLine m s letter v TakenWrong
+    pub later_other : w ≡ false → LaterLine m s letter v None
     unfolding after_media_by taken_by
     later_other e = record { is = λ a. sym (later_rest a (stream_by m s) letter (text_of m v) no ∙ rw (← is, e)) }
 

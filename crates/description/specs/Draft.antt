@@ -1,6 +1,7 @@
 -- Document 01, "Message, version 1": what a Request or Accepted says, line by line. A draft is what the lines so far have
 -- said; each line makes the next draft, or is wrong (`none`: number 10).
-use Rattle.std.specs.Prelude.{ℕ, ◌+◌, List, [], ◌∷◌, Bool, true, ◌&&◌, ◌||◌, cond, eqb}
+use Rattle.std.specs.Prelude.{ℕ, ◌+◌, List, [], ◌∷◌, Bool, true, ◌&&◌, ◌||◌, cond, eqb, None}
+use Rattle.std.specs.Prelude as code
 use Rattle.std.proofs.Math.Option.{Option, none, some, map}
 use Rattle.octets.specs.Chain.{when}
 use Rattle.octets.specs.Split.{has}
@@ -9,8 +10,6 @@ use Rattle.octets.specs.Words.{begins, same, digit_run}
 use Rattle.texts.specs.Tokens.{token, token_count}
 use Rattle.address.specs.declared.Address.{Address}
 use Rattle.address.specs.declared.Address.TheVariants.{V4}
-use Rattle.address.specs.declared.Parsed.{Parsed}
-use Rattle.address.specs.declared.Parsed.TheVariants.{Unreadable}
 use Rattle.address.specs.Kinds.{unicast}
 use Rattle.address.specs.Ipv4.{read_v4}
 use Rattle.address.specs.Ipv6.{read_v6}
@@ -65,12 +64,12 @@ unfoldable pub session_line : Draft → Option Draft
 session_line d = needed 2 true d
 
 -- the address s of the family that the word names
-unfoldable pub address_of : List ℕ → List ℕ → Parsed
-address_of family s = cond (same ip4_word family) (read_v4 s) (cond (same ip6_word family) (read_v6 s) Unreadable)
+unfoldable pub address_of : List ℕ → List ℕ → code.Option Address
+address_of family s = cond (same ip4_word family) (read_v4 s) (cond (same ip6_word family) (read_v6 s) None)
 
 -- `c=`: IN, a family, and a unicast address of it
-unfoldable pub connection_of : List ℕ → Parsed
-connection_of v = cond (eqb (token_count v) 3 && same in_word (token 0 v)) (address_of (token 1 v) (token 2 v)) Unreadable
+unfoldable pub connection_of : List ℕ → code.Option Address
+connection_of v = cond (eqb (token_count v) 3 && same in_word (token 0 v)) (address_of (token 1 v) (token 2 v)) None
 
 unfoldable pub with_address : Draft → Address → Draft
 with_address d a = record { had = 4; address = a; stream = d.stream }

@@ -1,5 +1,3 @@
--- The definitions that the contracts of this crate use: `Draft`, by document 01; `Meaning` for the code's types; `Private` is used only by
--- functions that are not public.
+-- The definitions that the contracts of this crate use: `Draft`, by document 01; `Meaning` for the code's types.
 pub mod Draft
 pub mod Meaning
-pub mod Private

@@ -6,10 +6,10 @@ mod lines;
 
 ghost use Rattle.std.specs.Prelude.{◌≡◌};
 ghost use Rattle.description.specs.Draft.{empty_draft};
-ghost use Rattle.description.specs.Meaning.{preamble_by, extended_by, is_ipbcp, is_skipped, preamble_line, LaterLine};
+ghost use Rattle.description.specs.Meaning.{preamble_by, preamble_in, is_ipbcp, is_skipped, preamble_line, LaterLine};
 
 use address::Address;
-use media::{Stream, Taken};
+use media::Stream;
 use octets::Span;
 use octets::spans::text;
 use octets::words::{equals, starts};
@@ -20,13 +20,6 @@ pub struct Preamble {
     // How many of the five needed lines there were, capped at five.
     pub had: u8,
     pub address: Address,
-}
-
-// The preamble with one more line.
-#[derive(Clone, Copy)]
-pub enum Extended {
-    Go(Preamble),
-    Wrong,
 }
 
 // The preamble before the first line.
@@ -63,8 +56,8 @@ pub fn is_skipped(letter: u8, t: &[u8]) -> bool
 }
 
 // The preamble p with the line of this letter whose value is t. The ipbcp line and the media line are not part of it.
-pub fn preamble_line(p: Preamble, letter: u8, t: &[u8]) -> Extended
-    ensures { extended_by result ≡ preamble_line (preamble_by p) letter t.now }
+pub fn preamble_line(p: Preamble, letter: u8, t: &[u8]) -> Option<Preamble>
+    ensures { preamble_in result ≡ preamble_line (preamble_by p) letter t.now }
 {
     if letter == b'v' {
         return lines::needed(p, 0, equals(b"0", t));
@@ -82,23 +75,23 @@ pub fn preamble_line(p: Preamble, letter: u8, t: &[u8]) -> Extended
         return lines::needed(p, 4, lines::is_time(t));
     }
     if is_skipped(letter, t) {
-        return Extended::Go(p);
+        return Some(p);
     }
-    Extended::Wrong
+    None
 }
 
 // The stream s with the line of this letter after its media line; the line's value is the text of v in m.
-pub fn later_line(s: Stream, m: &[u8], letter: u8, v: Span) -> Taken
+pub fn later_line(s: Stream, m: &[u8], letter: u8, v: Span) -> Option<Stream>
     ensures { LaterLine m.now s letter v result }
 {
     if letter == b'a' {
         if starts(b"ipbcp:", text(m, v)) {
-            return Taken::Wrong;
+            return None;
         }
         return media::add_attribute(s, m, v);
     }
     if lines::is_skipped_letter(letter) {
-        return Taken::Stream(s);
+        return Some(s);
     }
-    Taken::Wrong
+    None
 }

@@ -2,46 +2,46 @@
 ghost use Rattle.std.specs.Prelude.{◌≡◌, ◌<◌};
 ghost use Rattle.octets.specs.Split.{has};
 ghost use Rattle.description.specs.Draft.{needed, is_origin, address_of, connection_of, connection_line, is_time, skipped_letters};
-ghost use Rattle.description.specs.Meaning.{preamble_by, extended_by};
-ghost use Rattle.description.specs.Private.{is_host};
+ghost use Rattle.description.specs.Meaning.{preamble_by, preamble_in};
 
-use crate::{Extended, Preamble};
-use address::Parsed;
+use crate::Preamble;
+use address::Address;
 use address::ipv4::read_ipv4;
 use address::ipv6::read_ipv6;
 use octets::parts::find_from;
-use octets::spans::{after, up_to};
+use octets::spans::text;
 use octets::words::{digit_run, equals};
-use texts::{Three, Two, after_token, cut_three, cut_two};
+use texts::cut;
 
 // p with the needed line that follows n others, if that line is right.
-pub(crate) fn needed(p: Preamble, n: u8, right: bool) -> Extended
+pub(crate) fn needed(p: Preamble, n: u8, right: bool) -> Option<Preamble>
     requires { n < 5 }
-    ensures { extended_by result ≡ needed n right (preamble_by p) }
+    ensures { preamble_in result ≡ needed n right (preamble_by p) }
 {
     let had = p.had;
     if had != n {
-        return Extended::Wrong;
+        return None;
     }
     if right {
         let address = p.address;
-        return Extended::Go(Preamble {
+        return Some(Preamble {
             had: n + 1,
             address,
         });
     }
-    Extended::Wrong
+    None
 }
 
-// t has three tokens, the first IN, the second a family.
-fn is_host(t: &[u8]) -> bool
-    ensures { result ≡ is_host t.now }
+// t has six tokens, the fourth IN, the fifth a family.
+pub(crate) fn is_origin(t: &[u8]) -> bool
+    ensures { result ≡ is_origin t.now }
 {
-    let Three::Lengths(a, b) = cut_three(t) else {
+    let Some(tokens) = cut::<6>(t) else {
         return false;
     };
-    if equals(b"IN", up_to(t, a)) {
-        let family = up_to(after(t, a + 1), b);
+    let [_, _, _, net, family, _] = tokens;
+    if equals(b"IN", text(t, net)) {
+        let family = text(t, family);
         if equals(b"IP4", family) {
             return true;
         }
@@ -50,15 +50,8 @@ fn is_host(t: &[u8]) -> bool
     false
 }
 
-// t has six tokens, the last three of them a host.
-pub(crate) fn is_origin(t: &[u8]) -> bool
-    ensures { result ≡ is_origin t.now }
-{
-    is_host(after_token(after_token(after_token(t))))
-}
-
 // The address s of the family that the word names.
-fn address_of(family: &[u8], s: &[u8]) -> Parsed
+fn address_of(family: &[u8], s: &[u8]) -> Option<Address>
     ensures { result ≡ address_of family.now s.now }
 {
     if equals(b"IP4", family) {
@@ -67,46 +60,42 @@ fn address_of(family: &[u8], s: &[u8]) -> Parsed
     if equals(b"IP6", family) {
         return read_ipv6(s);
     }
-    Parsed::Unreadable
+    None
 }
 
 // The address of a connection: t is IN, a family and an address.
-fn connection_of(t: &[u8]) -> Parsed
+fn connection_of(t: &[u8]) -> Option<Address>
     ensures { result ≡ connection_of t.now }
 {
-    let Three::Lengths(a, b) = cut_three(t) else {
-        return Parsed::Unreadable;
-    };
-    if equals(b"IN", up_to(t, a)) {
-        let rest = after(t, a + 1);
-        return address_of(up_to(rest, b), after(rest, b + 1));
+    let [net, family, address] = cut::<3>(t)?;
+    if equals(b"IN", text(t, net)) {
+        return address_of(text(t, family), text(t, address));
     }
-    Parsed::Unreadable
+    None
 }
 
 // The preamble p with the line `c=` of t.
-pub(crate) fn connection_line(p: Preamble, t: &[u8]) -> Extended
-    ensures { extended_by result ≡ connection_line (preamble_by p) t.now }
+pub(crate) fn connection_line(p: Preamble, t: &[u8]) -> Option<Preamble>
+    ensures { preamble_in result ≡ connection_line (preamble_by p) t.now }
 {
     let had = p.had;
     if had != 3 {
-        return Extended::Wrong;
+        return None;
     }
-    let Parsed::Unicast(a) = connection_of(t) else {
-        return Extended::Wrong;
-    };
-    Extended::Go(Preamble { had: 4, address: a })
+    let address = connection_of(t)?;
+    Some(Preamble { had: 4, address })
 }
 
 // t is two runs of digits.
 pub(crate) fn is_time(t: &[u8]) -> bool
     ensures { result ≡ is_time t.now }
 {
-    let Two::Lengths(a) = cut_two(t) else {
+    let Some(tokens) = cut::<2>(t) else {
         return false;
     };
-    if digit_run(up_to(t, a)) {
-        return digit_run(after(t, a + 1));
+    let [start, stop] = tokens;
+    if digit_run(text(t, start)) {
+        return digit_run(text(t, stop));
     }
     false
 }

@@ -1,4 +1,4 @@
--- `lines::connection_line` meets its contract: the line is in its place and has an address, or not.
+-- `lines::connection_line` meets its contract: three lines came before, or not, and the address is read, or not.
 -- Assumes nothing.
 use borrow.Author.Rules.{rules}
 use Rattle.description.proofs.LineLaws.{connection_lines}
@@ -7,8 +7,8 @@ use Rattle.description.proofs.lines.connection_line.Goals as goal
 pub returns-then-had-ne3 : goal.returns-then-had-ne3
 returns-then-had-ne3 c = search (connection_lines, rules)
 
-pub returns-in_default : goal.returns-in_default
-returns-in_default c = search (connection_lines, rules)
+pub returns-in_err-address : goal.returns-in_err-address
+returns-in_err-address c = search (connection_lines, rules)
 
 pub returns : goal.returns
 returns c = search (connection_lines, rules)
