@@ -1,9 +1,39 @@
 // The answer to a line, by its mode word.
 use crate::{addresses, codec_match, elements, message, print, rewrite, tunnel};
-use octets::{parts, words};
+use octets::parts;
 
-// Appends what the line's mode answers. A mode gets `data` for the octets that the line's digits stand for, and `room`
-// for what it writes.
+// Appends what the line's mode answers, unless the line is a bad one. A mode gets `data` for the octets that the line's digits stand
+// for, and `room` for what it writes.
+fn push_mode(
+    line: &[u8],
+    data: &mut [u8],
+    room: &mut [u8],
+    out: &mut [u8],
+    at: usize,
+) -> Option<usize> {
+    let mode = parts::part(line, b' ', 0);
+    if mode == b"elements" {
+        return elements::push_answer(line, data, out, at);
+    }
+    if mode == b"rewrite" {
+        return rewrite::push_answer(line, data, room, out, at);
+    }
+    if mode == b"tunnel" {
+        return tunnel::push_answer(line, data, room, out, at);
+    }
+    if mode == b"message" {
+        return message::push_answer(line, data, out, at);
+    }
+    if mode == b"address" {
+        return addresses::push_answer(line, data, out, at);
+    }
+    if mode == b"match" {
+        return codec_match::push_answer(line, data, room, out, at);
+    }
+    None
+}
+
+// Appends the answer to the line.
 pub(crate) fn push_answer(
     line: &[u8],
     data: &mut [u8],
@@ -11,24 +41,8 @@ pub(crate) fn push_answer(
     out: &mut [u8],
     at: usize,
 ) -> usize {
-    let word = parts::part(line, b' ', 0);
-    if words::equals(b"elements", word) {
-        return elements::push_answer(line, data, out, at);
+    match push_mode(line, data, room, out, at) {
+        Some(k) => k,
+        None => print::bad_line(out, at),
     }
-    if words::equals(b"rewrite", word) {
-        return rewrite::push_answer(line, data, room, out, at);
-    }
-    if words::equals(b"tunnel", word) {
-        return tunnel::push_answer(line, data, room, out, at);
-    }
-    if words::equals(b"message", word) {
-        return message::push_answer(line, data, out, at);
-    }
-    if words::equals(b"address", word) {
-        return addresses::push_answer(line, data, out, at);
-    }
-    if words::equals(b"match", word) {
-        return codec_match::push_answer(line, data, room, out, at);
-    }
-    print::bad_line(out, at)
 }

@@ -1,10 +1,8 @@
 // elements PASS ENTRIES HEX: application data as a whole, and element by element.
-use crate::input::Unpacked;
 use crate::{input, print, values, walk};
-use bat::{DataAnswer, DataOutcome, Diagnostic, Finding, Frame, Judged, Outcome, framing};
-use bat_read::{Examined, Listed};
+use bat::{DataOutcome, Diagnostic, Frame, Judged, Outcome, Taken, Value, framing};
 use notation::push_refused;
-use octets::{Number, append, parts, spans};
+use octets::{append, parts, spans};
 
 // Appends the word for the data's outcome.
 fn push_outcome(o: DataOutcome, out: &mut [u8], at: usize) -> usize {
@@ -27,10 +25,7 @@ fn push_asked(o: Outcome, out: &mut [u8], at: usize) -> usize {
 
 // Appends whether the element asks for notice.
 fn push_notice(notice: bool, out: &mut [u8], at: usize) -> usize {
-    if notice {
-        return append::push(b"1:", out, at);
-    }
-    append::push(b"0:", out, at)
+    append::push(if notice { b"1:" } else { b"0:" }, out, at)
 }
 
 fn push_diagnostic(d: Diagnostic, out: &mut [u8], at: usize) -> usize {
@@ -39,11 +34,9 @@ fn push_diagnostic(d: Diagnostic, out: &mut [u8], at: usize) -> usize {
 
 // Appends the judgement of an unknown element.
 fn push_judged(j: Judged, out: &mut [u8], at: usize) -> usize {
-    let o = j.outcome;
-    let d = j.diagnostic;
-    let k = push_asked(o, out, at);
+    let k = push_asked(j.outcome, out, at);
     let k2 = push_notice(j.notice, out, k);
-    push_diagnostic(d, out, k2)
+    push_diagnostic(j.diagnostic, out, k2)
 }
 
 // Appends the front of the element f, which starts at `start`.
@@ -55,10 +48,16 @@ fn push_front(f: Frame, start: usize, out: &mut [u8], at: usize) -> usize {
 }
 
 // Appends the finding on the element f at the front of s.
-fn push_finding(s: &[u8], f: Frame, v: Finding, out: &mut [u8], at: usize) -> usize {
-    match v {
-        Finding::Recognised(value) => values::push_value(framing::contents(s, f), value, out, at),
-        Finding::Unknown(j) => push_judged(j, out, at),
+fn push_finding(
+    s: &[u8],
+    f: Frame,
+    finding: Result<Value, Judged>,
+    out: &mut [u8],
+    at: usize,
+) -> usize {
+    match finding {
+        Ok(value) => values::push_value(framing::contents(s, f), value, out, at),
+        Err(j) => push_judged(j, out, at),
     }
 }
 
@@ -68,13 +67,12 @@ fn push_elements(data: &[u8], pass: bool, out: &mut [u8], at: usize) -> usize {
     let mut i = 0;
     while i < data.len() {
         let s = &data[i..];
-        let x = bat_read::examine_first(s, pass);
-        let Examined::Element(f, v) = x else {
+        let Ok(Some(x)) = bat_read::examine_first(s, pass) else {
             return k;
         };
-        k = push_front(f, i, out, k);
-        k = push_finding(s, f, v, out, k);
-        let next = walk::end_of(data, i, f);
+        k = push_front(x.frame, i, out, k);
+        k = push_finding(s, x.frame, x.finding, out, k);
+        let next = walk::end_of(data, i, x.frame);
         if next <= i {
             return k;
         }
@@ -98,15 +96,14 @@ fn push_listings(data: &[u8], pass: bool, out: &mut [u8], at: usize) -> usize {
     let mut k = at;
     let mut i = 0;
     while i < data.len() {
-        let x = bat_read::next_listed(data, i, pass);
-        let Listed::Next(d, next) = x else {
+        let Some(x) = bat_read::next_listed(data, i, pass) else {
             return k;
         };
-        k = push_listing(d, at, out, k);
-        if next <= i {
+        k = push_listing(x.diagnostic, at, out, k);
+        if x.next <= i {
             return k;
         }
-        i = next;
+        i = x.next;
     }
     k
 }
@@ -122,48 +119,37 @@ fn push_listed(data: &[u8], pass: bool, out: &mut [u8], at: usize) -> usize {
 }
 
 // Appends the answer to data that is taken.
-fn push_taken(
-    data: &[u8],
-    count: usize,
-    o: DataOutcome,
-    pass: bool,
-    out: &mut [u8],
-    at: usize,
-) -> usize {
-    let k = push_outcome(o, out, at);
-    let k2 = append::push_number(count as u64, out, k);
+fn push_taken(data: &[u8], taken: Taken, pass: bool, out: &mut [u8], at: usize) -> usize {
+    let k = push_outcome(taken.outcome, out, at);
+    let k2 = append::push_number(taken.count as u64, out, k);
     let k3 = push_elements(data, pass, out, k2);
     push_listed(data, pass, out, k3)
 }
 
 // Appends the answer to data, with a table of so many entries.
 fn push_data(data: &[u8], entries: u16, pass: bool, out: &mut [u8], at: usize) -> usize {
-    let a = bat_read::judge_data(data, entries as usize, pass);
-    match a {
-        DataAnswer::Refused(n) => push_refused(n, out, at),
-        DataAnswer::Taken { count, outcome } => push_taken(data, count, outcome, pass, out, at),
+    match bat_read::judge_data(data, entries as usize, pass) {
+        Ok(taken) => push_taken(data, taken, pass, out, at),
+        Err(e) => push_refused(e, out, at),
     }
 }
 
-// Appends the answer to the line.
-pub(crate) fn push_answer(line: &[u8], data: &mut [u8], out: &mut [u8], at: usize) -> usize {
+// Appends the answer to the line, unless it is a bad one.
+pub(crate) fn push_answer(line: &[u8], data: &mut [u8], out: &mut [u8], at: usize) -> Option<usize> {
     if parts::separators(line, b' ') != 3 {
-        return print::bad_line(out, at);
+        return None;
     }
-    let a = input::number(line, 1);
-    let Number::Value(pass) = a else {
-        return print::bad_line(out, at);
-    };
+    let pass = input::number(line, 1)?;
     if 1 < pass {
-        return print::bad_line(out, at);
+        return None;
     }
-    let b = input::number(line, 2);
-    let Number::Value(entries) = b else {
-        return print::bad_line(out, at);
-    };
-    let c = input::unpack(line, 3, data);
-    let Unpacked::Octets(n) = c else {
-        return print::bad_line(out, at);
-    };
-    push_data(spans::up_to(data, n), entries, pass == 1, out, at)
+    let entries = input::number(line, 2)?;
+    let n = input::unpack(line, 3, data)?;
+    Some(push_data(
+        spans::up_to(data, n),
+        entries,
+        pass == 1,
+        out,
+        at,
+    ))
 }

@@ -1,8 +1,7 @@
 // message HEX: a message read.
-use crate::input::Unpacked;
 use crate::{input, print};
 use address::{Address, write};
-use ipbcp::{Message, MessageType};
+use ipbcp::{Description, Message, MessageType};
 use media::{Stream, Texts};
 use notation::{push_refused, push_texts};
 use octets::{Span, append, parts, spans};
@@ -54,20 +53,16 @@ fn push_fmtp(m: &[u8], x: Texts, out: &mut [u8], at: usize) -> usize {
 
 // Appends the media line: port, media, transport, payload.
 fn push_media(m: &[u8], s: Stream, out: &mut [u8], at: usize) -> usize {
-    let media = s.media;
-    let transport = s.transport;
     let k = push_number(s.port as u64, out, at);
-    let k2 = push_text(m, media, out, k);
-    let k3 = push_text(m, transport, out, k2);
+    let k2 = push_text(m, s.media, out, k);
+    let k3 = push_text(m, s.transport, out, k2);
     push_number(s.payload as u64, out, k3)
 }
 
 // Appends the attributes after the media line: rtpmap, fmtp, ptime.
 fn push_attributes(m: &[u8], s: Stream, out: &mut [u8], at: usize) -> usize {
-    let rtpmap = s.rtpmap;
-    let fmtp = s.fmtp;
-    let k = push_text(m, rtpmap, out, at);
-    let k2 = push_fmtp(m, fmtp, out, k);
+    let k = push_text(m, s.rtpmap, out, at);
+    let k2 = push_fmtp(m, s.fmtp, out, k);
     push_number(s.ptime as u64, out, k2)
 }
 
@@ -75,39 +70,32 @@ fn push_attributes(m: &[u8], s: Stream, out: &mut [u8], at: usize) -> usize {
 fn push_described(
     m: &[u8],
     kind: MessageType,
-    a: Address,
-    s: Stream,
+    d: Description,
     out: &mut [u8],
     at: usize,
 ) -> usize {
     let k = push_head(1, kind, out, at);
-    let k2 = push_address(a, out, k);
-    let k3 = push_media(m, s, out, k2);
-    push_attributes(m, s, out, k3)
+    let k2 = push_address(d.address, out, k);
+    let k3 = push_media(m, d.stream, out, k2);
+    push_attributes(m, d.stream, out, k3)
 }
 
 // Appends the answer to the message m.
 fn push_message(m: &[u8], out: &mut [u8], at: usize) -> usize {
-    let x = ipbcp::read(m);
-    match x {
-        Message::Refused(n) => push_refused(n, out, at),
-        Message::Typed { version, kind } => push_head(version, kind, out, at),
-        Message::Described {
-            kind,
-            address,
-            stream,
-        } => push_described(m, kind, address, stream, out, at),
+    match ipbcp::read(m) {
+        Err(e) => push_refused(e, out, at),
+        Ok(Message::Typed { version, kind }) => push_head(version, kind, out, at),
+        Ok(Message::Described { kind, description }) => {
+            push_described(m, kind, description, out, at)
+        }
     }
 }
 
-// Appends the answer to the line.
-pub(crate) fn push_answer(line: &[u8], data: &mut [u8], out: &mut [u8], at: usize) -> usize {
+// Appends the answer to the line, unless it is a bad one.
+pub(crate) fn push_answer(line: &[u8], data: &mut [u8], out: &mut [u8], at: usize) -> Option<usize> {
     if parts::separators(line, b' ') != 1 {
-        return print::bad_line(out, at);
+        return None;
     }
-    let a = input::unpack(line, 1, data);
-    let Unpacked::Octets(n) = a else {
-        return print::bad_line(out, at);
-    };
-    push_message(spans::up_to(data, n), out, at)
+    let n = input::unpack(line, 1, data)?;
+    Some(push_message(spans::up_to(data, n), out, at))
 }

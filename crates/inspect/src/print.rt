@@ -1,6 +1,6 @@
 // What several modes print.
 use notation::{push_octets, push_refused};
-use octets::{Put, append, spans};
+use octets::{Refusal, append, spans};
 
 // The answer to a bad line.
 pub(crate) fn bad_line(out: &mut [u8], at: usize) -> usize {
@@ -13,11 +13,16 @@ pub(crate) fn named(name: &[u8], s: &[u8], out: &mut [u8], at: usize) -> usize {
     push_octets(s, out, k)
 }
 
-// Appends what a writer put at the front of room, or the number that refuses it.
-pub(crate) fn written(p: Put, room: &[u8], out: &mut [u8], at: usize) -> usize {
-    match p {
-        Put::Octets(n) => push_octets(spans::up_to(room, n), out, at),
-        Put::Refused(n) => push_refused(n, out, at),
+// Appends what a writer put at the front of room, or its refusal.
+pub(crate) fn written(
+    written: Result<usize, Refusal>,
+    room: &[u8],
+    out: &mut [u8],
+    at: usize,
+) -> usize {
+    match written {
+        Ok(n) => push_octets(spans::up_to(room, n), out, at),
+        Err(e) => push_refused(e, out, at),
     }
 }
 

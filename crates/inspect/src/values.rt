@@ -1,6 +1,6 @@
 // The value of a decoded element.
 use crate::{print, walk};
-use bat::{Framed, InnerDuration, InnerType, SingleCodec, Value, framing};
+use bat::{InnerDuration, InnerType, SingleCodec, Value, framing};
 use octets::{Span, append, spans};
 
 // Appends a name and a number.
@@ -11,10 +11,7 @@ fn push_number(name: &[u8], n: u64, out: &mut [u8], at: usize) -> usize {
 
 // Appends a name, and 1 or 0.
 fn push_flag(name: &[u8], b: bool, out: &mut [u8], at: usize) -> usize {
-    if b {
-        return push_number(name, 1, out, at);
-    }
-    push_number(name, 0, out, at)
+    push_number(name, b as u64, out, at)
 }
 
 // Appends a name, and the octets of sp in s.
@@ -29,9 +26,8 @@ fn push_codec(organisation: u8, information: &[u8], out: &mut [u8], at: usize) -
 }
 
 fn push_single(s: &[u8], c: SingleCodec, out: &mut [u8], at: usize) -> usize {
-    let sp = c.information;
     let k = append::push(b"codec=", out, at);
-    push_codec(c.organisation, spans::text(s, sp), out, k)
+    push_codec(c.organisation, spans::text(s, c.information), out, k)
 }
 
 // Appends the codec whose contents are c.
@@ -54,8 +50,7 @@ fn push_list(s: &[u8], out: &mut [u8], at: usize) -> usize {
     let mut i = 0;
     while i < s.len() {
         let t = &s[i..];
-        let x = framing::first_element(t);
-        let Framed::Whole(f) = x else {
+        let Ok(Some(f)) = framing::first_element(t) else {
             return k;
         };
         k = push_next(framing::contents(t, f), i, out, k);
@@ -76,15 +71,10 @@ fn push_codecs(s: &[u8], sp: Span, out: &mut [u8], at: usize) -> usize {
 // Appends the diagnostics in s, three octets each, each after a `;`.
 fn push_diagnostics(s: &[u8], out: &mut [u8], at: usize) -> usize {
     let mut k = at;
-    let mut i = 0;
-    while i < s.len() {
-        if s.len() - i < 3 {
-            return k;
-        }
-        let index = bat::ranges::word(&s[i + 1..]);
+    for d in s.chunks_exact(3) {
+        let index = bat::ranges::word(&d[1..]);
         k = append::push_octet(b';', out, k);
-        k = print::diagnostic(s[i], index as u64, out, k);
-        i += 3;
+        k = print::diagnostic(d[0], index as u64, out, k);
     }
     k
 }
@@ -101,14 +91,16 @@ fn push_unit(s: &[u8], network: Span, local: Span, out: &mut [u8], at: usize) ->
 }
 
 // Appends a signal: its type, and its duration if it has one.
-fn push_signal(kind: InnerType, duration: InnerDuration, out: &mut [u8], at: usize) -> usize {
+fn push_signal(
+    kind: InnerType,
+    duration: Option<InnerDuration>,
+    out: &mut [u8],
+    at: usize,
+) -> usize {
     let k = push_number(b"signal=", kind.kind as u64, out, at);
     match duration {
-        InnerDuration::Untimed => k,
-        InnerDuration::Lasting {
-            compatibility: _,
-            duration: d,
-        } => push_number(b";", d as u64, out, k),
+        None => k,
+        Some(d) => push_number(b";", d.duration as u64, out, k),
     }
 }
 

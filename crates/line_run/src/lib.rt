@@ -163,3 +163,90 @@ pub fn run<R: Read, W: Write, E: Write, A: Answer>(
         finish(to, errors, answer, p, least, line, room, out);
     }
 }
+
+#[cfg(test)]
+mod tests {
+    use super::*;
+    use octets::append::{push, push_octet};
+    use std::alloc::Global;
+    use std::test::Fail;
+
+    // Answers a line with its octets and how it came, and wants no more after one that begins with `.`.
+    #[derive(Clone, Copy)]
+    struct Echo {
+        going: bool,
+    }
+
+    impl Answer for Echo {
+        fn answer(
+            &mut self,
+            line: &[u8],
+            fits: bool,
+            ended: bool,
+            _room: &mut [u8],
+            out: &mut [u8],
+            at: usize,
+        ) -> usize {
+            self.going = !line.starts_with(b".");
+            let k = push(line, out, at);
+            let k2 = push_octet(if fits { b'+' } else { b'-' }, out, k);
+            push_octet(if ended { b'\n' } else { b'?' }, out, k2)
+        }
+
+        fn goes_on(&self) -> bool {
+            self.going
+        }
+
+        fn finish(&self, out: &mut [u8], at: usize) -> usize {
+            push(b"end", out, at)
+        }
+    }
+
+    // Whether `wanted` is printed for an input that is read three octets at a time, with room for lines of four octets.
+    fn echoes(alloc: Global, input: &[u8], wanted: &[u8]) -> bool {
+        let mut to = Vec::new(alloc);
+        let mut errors = Vec::new(alloc);
+        let mut echo = Echo { going: true };
+        let mut part = [0u8; 3];
+        let mut line = [0u8; 4];
+        let mut room = [0u8; 1];
+        let mut out = [0u8; 16];
+        let mut from = input;
+        run(
+            &mut from,
+            &mut to,
+            &mut errors,
+            &mut echo,
+            8,
+            &mut part,
+            &mut line,
+            &mut room,
+            &mut out,
+        );
+        to.as_slice() == wanted && errors.is_empty()
+    }
+
+    #[test]
+    fn each_line_is_answered(rt: HostRuntime) -> Result<(), Fail> {
+        assert!(rt; echoes(rt.alloc(), b"ab\n\nabcd\n", b"ab+\n+\nabcd+\nend"));
+        Ok(())
+    }
+
+    #[test]
+    fn a_line_that_does_not_fit_is_cut(rt: HostRuntime) -> Result<(), Fail> {
+        assert!(rt; echoes(rt.alloc(), b"abcde\nf\n", b"abcd-\nf+\nend"));
+        Ok(())
+    }
+
+    #[test]
+    fn a_last_line_may_have_no_end(rt: HostRuntime) -> Result<(), Fail> {
+        assert!(rt; echoes(rt.alloc(), b"a\nbc", b"a+\nbc+?end"));
+        Ok(())
+    }
+
+    #[test]
+    fn nothing_is_read_once_no_line_is_wanted(rt: HostRuntime) -> Result<(), Fail> {
+        assert!(rt; echoes(rt.alloc(), b".\nb\nc\n", b".+\nend"));
+        Ok(())
+    }
+}

@@ -1,2 +1,0 @@
--- What a run leaves of its buffers.
-pub mod Run
