@@ -7,13 +7,16 @@ use mathlib.Core.Option.{Option, none, some, map}
 use lib.ListN.{length, take, drop, set, get_or, length-set}
 use lib.Seq.{drop-cons, drop-drop, drop_at, take-suc, take_all, length-take-le, set_at}
 use native.Mathlib.Omega.{arith}
+use Rattle.std.specs.Prelude.{Result}
+use Rattle.std.specs.Result.{result_unwrap_or}
+use Rattle.octets.specs.declared.Refusal.{Refusal}
 use Rattle.bat.specs.Framing.{Element, whole, front, first, on_front, elements, Cut, refused, taken, cut}
 use Rattle.bat.specs.FramingMeaning.{count_of}
 use Rattle.bat.proofs.WalkLaws.{front_within}
 use Rattle.bat.proofs.DataLaws.{elements_next, Taken, taken_is}
 use Rattle.bat_table.specs.declared.Entry.{Entry}
 use Rattle.bat_table.specs.Table.{entry_of, entries_from, filled_by, table_after, no_entry}
-use Rattle.bat_table.specs.Private.{stored_by, step_at}
+use Rattle.bat_table.specs.Private.{step_at}
 
 -- ---- i entries are stored, and the next element is at `spot`
 abbrev pub spot : List ℕ → ℕ → ℕ
@@ -80,6 +83,9 @@ module _ (s : List ℕ) (ys xs : List Entry) (all : entries_at s 0 ≡ some xs) 
       (sym (ap (λ (l : List Entry). l ++ drop (suc i) ys) (take-suc xs i no_entry h) ∙ append_assoc (take i xs) (get_or xs i no_entry ∷ []) (drop (suc i) ys)))
 
 -- ---- the answer says how many entries are stored, and the table is then document 01's
+abbrev pub stored_by : Result ℕ Refusal → ℕ
+stored_by x = result_unwrap_or x 0
+
 length_entries_from : (d : ℕ) (es : List Element) → length (entries_from d es) ≡ length es
 unfolding entries_from
 length_entries_from d [] = refl
