@@ -1,12 +1,12 @@
 // Addresses appended to a buffer as text.
 ghost use Rattle.std.specs.Prelude.{◌≡◌, ◌∷◌, ◌++◌, ◌<◌};
 ghost use Rattle.octets.specs.Text.{ascii, char};
-ghost use Rattle.octets.specs.Append.{Appends, number_text};
+ghost use Rattle.octets.specs.Append.{Pushes, number_text};
 ghost use Rattle.address.specs.Canonical.{low_digit, group_text, each_after, joined, zeros, better, longest_run, shortened, ipv4_text, ipv6_text, address_text};
 ghost use Rattle.address.specs.Private.{HexWidth, Longest};
 
 use crate::{Address, POWER_24, POWER_32, POWER_48};
-use octets::append::{push, push_number, push_number_then, push_octet};
+use octets::append::Cursor;
 
 // A run of groups that are zero.
 #[derive(Clone, Copy)]
@@ -43,8 +43,8 @@ fn hex_width(g: u16) -> usize
 }
 
 // Appends a group.
-fn push_group(g: u16, out: &mut [u8], at: usize) -> usize
-    ensures { Appends out.old at (group_text g) result out.new }
+fn push_group(g: u16, out: &mut Cursor<'_>)
+    ensures { Pushes out.old out.new (group_text g) }
 {
     let x = g / 16;
     let y = x / 16;
@@ -56,37 +56,35 @@ fn push_group(g: u16, out: &mut [u8], at: usize) -> usize
         hex_digit(g % 16),
     ];
     let w = hex_width(g);
-    push(&digits[4 - w..4], out, at)
+    out.push(&digits[4 - w..4]);
 }
 
 // Appends a colon and a group.
-fn push_colon_group(g: u16, out: &mut [u8], at: usize) -> usize
-    ensures { Appends out.old at (char ":" ∷ group_text g) result out.new }
+fn push_colon_group(g: u16, out: &mut Cursor<'_>)
+    ensures { Pushes out.old out.new (char ":" ∷ group_text g) }
 {
-    let k = push_octet(b':', out, at);
-    push_group(g, out, k)
+    out.push_octet(b':');
+    push_group(g, out);
 }
 
 // Appends the groups, each after a colon.
-fn push_each(gs: &[u16], out: &mut [u8], at: usize) -> usize
-    ensures { Appends out.old at (each_after (char ":") group_text gs.now) result out.new }
+fn push_each(gs: &[u16], out: &mut Cursor<'_>)
+    ensures { Pushes out.old out.new (each_after (char ":") group_text gs.now) }
 {
-    let mut k = at;
     for g in gs {
-        k = push_colon_group(*g, out, k);
+        push_colon_group(*g, out);
     }
-    k
 }
 
 // Appends the groups with colons between them.
-fn push_groups(gs: &[u16], out: &mut [u8], at: usize) -> usize
-    ensures { Appends out.old at (joined (char ":") group_text gs.now) result out.new }
+fn push_groups(gs: &[u16], out: &mut Cursor<'_>)
+    ensures { Pushes out.old out.new (joined (char ":") group_text gs.now) }
 {
     if gs.len() < 1 {
-        return at;
+        return;
     }
-    let k = push_group(gs[0], out, at);
-    push_each(&gs[1..], out, k)
+    push_group(gs[0], out);
+    push_each(&gs[1..], out);
 }
 
 // How many zeros gs starts with.
@@ -120,31 +118,32 @@ fn longest(gs: &[u16]) -> Run
 }
 
 // Appends "::" and the groups after it.
-fn push_gap(gs: &[u16], out: &mut [u8], at: usize) -> usize
-    ensures { Appends out.old at (ascii "::" ++ joined (char ":") group_text gs.now) result out.new }
+fn push_gap(gs: &[u16], out: &mut Cursor<'_>)
+    ensures { Pushes out.old out.new (ascii "::" ++ joined (char ":") group_text gs.now) }
 {
-    let k = push(b"::", out, at);
-    push_groups(gs, out, k)
+    out.push(b"::");
+    push_groups(gs, out);
 }
 
 // Appends the groups with "::" for the longest run of zeros.
-fn push_shortened(gs: &[u16], out: &mut [u8], at: usize) -> usize
-    ensures { Appends out.old at (shortened gs.now (longest_run gs.now)) result out.new }
+fn push_shortened(gs: &[u16], out: &mut Cursor<'_>)
+    ensures { Pushes out.old out.new (shortened gs.now (longest_run gs.now)) }
 {
     let run = longest(gs);
     let start = run.start;
     let len = run.len;
     if len < 2 {
-        return push_groups(gs, out, at);
+        push_groups(gs, out);
+        return;
     }
     let end = start + len;
-    let k = push_groups(&gs[0..start], out, at);
-    push_gap(&gs[end..], out, k)
+    push_groups(&gs[0..start], out);
+    push_gap(&gs[end..], out);
 }
 
 // Appends the address of these halves.
-fn push_ipv6(high: u64, low: u64, out: &mut [u8], at: usize) -> usize
-    ensures { Appends out.old at (ipv6_text high low) result out.new }
+fn push_ipv6(high: u64, low: u64, out: &mut Cursor<'_>)
+    ensures { Pushes out.old out.new (ipv6_text high low) }
 {
     let gs: [u16; 8] = [
         (high / POWER_48 % 65536) as u16,
@@ -156,43 +155,43 @@ fn push_ipv6(high: u64, low: u64, out: &mut [u8], at: usize) -> usize
         (low / 65536 % 65536) as u16,
         (low % 65536) as u16,
     ];
-    push_shortened(&gs, out, at)
+    push_shortened(&gs, out);
 }
 
 // Appends two numbers with a dot between them.
-fn push_two(a: u8, b: u8, out: &mut [u8], at: usize) -> usize
-    ensures { Appends out.old at (number_text a ++ (char "." ∷ number_text b)) result out.new }
+fn push_two(a: u8, b: u8, out: &mut Cursor<'_>)
+    ensures { Pushes out.old out.new (number_text a ++ (char "." ∷ number_text b)) }
 {
-    let k = push_number_then(a as u64, b'.', out, at);
-    push_number(b as u64, out, k)
+    out.push_number_then(a as u64, b'.');
+    out.push_number(b as u64);
 }
 
 // Appends a dot and two numbers more.
-fn push_two_more(a: u8, b: u8, out: &mut [u8], at: usize) -> usize
-    ensures { Appends out.old at (char "." ∷ (number_text a ++ (char "." ∷ number_text b))) result out.new }
+fn push_two_more(a: u8, b: u8, out: &mut Cursor<'_>)
+    ensures { Pushes out.old out.new (char "." ∷ (number_text a ++ (char "." ∷ number_text b))) }
 {
-    let k = push_octet(b'.', out, at);
-    push_two(a, b, out, k)
+    out.push_octet(b'.');
+    push_two(a, b, out);
 }
 
 // Appends the IPv4 address n.
-fn push_ipv4(n: u32, out: &mut [u8], at: usize) -> usize
-    ensures { Appends out.old at (ipv4_text n) result out.new }
+fn push_ipv4(n: u32, out: &mut Cursor<'_>)
+    ensures { Pushes out.old out.new (ipv4_text n) }
 {
     let a = (n / POWER_24 % 256) as u8;
     let b = (n / 65536 % 256) as u8;
     let c = (n / 256 % 256) as u8;
     let d = (n % 256) as u8;
-    let k = push_two(a, b, out, at);
-    push_two_more(c, d, out, k)
+    push_two(a, b, out);
+    push_two_more(c, d, out);
 }
 
 // Appends the address.
-pub fn push_address(a: Address, out: &mut [u8], at: usize) -> usize
-    ensures { Appends out.old at (address_text a) result out.new }
+pub fn push_address(a: Address, out: &mut Cursor<'_>)
+    ensures { Pushes out.old out.new (address_text a) }
 {
     match a {
-        Address::V4(n) => push_ipv4(n, out, at),
-        Address::V6 { high, low } => push_ipv6(high, low, out, at),
+        Address::V4(n) => push_ipv4(n, out),
+        Address::V6 { high, low } => push_ipv6(high, low, out),
     }
 }

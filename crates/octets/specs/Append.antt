@@ -1,5 +1,6 @@
 -- Appending to a buffer: what fits is written, the rest is left out. And a number as decimal text.
 use Rattle.std.specs.Prelude.{ℕ, zero, suc, ◌+◌, ◌-◌, ◌/◌, min, ◌≡◌, List, ◌++◌, cond, length, take, drop, ltb}
+use Rattle.octets.specs.declared.append.Cursor.{Cursor}
 use Rattle.octets.specs.Decimal.{last_digits}
 
 -- l with vs in the place of its octets from `at` on
@@ -18,6 +19,11 @@ appended l at vs = put l at (take (length l - at) vs)
 pub record Appends (l : List ℕ) (at : ℕ) (vs : List ℕ) (r : ℕ) (f : List ℕ) : Type 0 where
   pub next : r ≡ next_of (length l) at vs
   pub leaves : f ≡ appended l at vs
+
+-- Pushing vs turns the cursor c into d: vs is appended to the octets that are written, and the buffer that is lent stays the same.
+pub record Pushes (c d : Cursor) (vs : List ℕ) : Type 0 where
+  pub lent : d.out.ghost_name ≡ c.out.ghost_name
+  pub appends : Appends c.out.now c.at vs d.at d.out.now
 
 -- how many digits n has, at most e + 1
 unfoldable pub width_from : ℕ → ℕ → ℕ

@@ -1,11 +1,57 @@
 // Appending to a buffer. What does not fit is left out.
 ghost use Rattle.std.specs.Prelude.{◌≡◌, [], ◌∷◌, ◌++◌, ◌+◌, ◌≤◌, length};
 ghost use Rattle.std.proofs.Math.Option.{some};
-ghost use Rattle.octets.specs.Append.{put, Appends, number_text};
+ghost use Rattle.octets.specs.Append.{Appends, Pushes, number_text};
 ghost use Rattle.octets.specs.Private.{Tail};
 ghost use Rattle.octets.specs.Puts.{Puts};
 
 use crate::Refusal;
+
+// A lent buffer that is being written: the octets of `out` up to `at` are written, and others follow them.
+#[derive(Drop)]
+pub struct Cursor<'a> {
+    pub out: &'a mut [u8],
+    pub at: usize,
+}
+
+impl<'a> Cursor<'a> {
+    // A buffer in which nothing is written.
+    pub fn new(out: &'a mut [u8]) -> Cursor<'a>
+        ensures lent { result.out.ghost_name ≡ out.entry.ghost_name }
+        ensures holds { result.out.now ≡ out.old }
+        ensures nothing { result.at ≡ 0 }
+    {
+        Cursor { out, at: 0 }
+    }
+
+    // Appends src, as far as there is room.
+    pub fn push(&mut self, src: &[u8])
+        ensures { Pushes self.old self.new src.now }
+    {
+        self.at = push(src, self.out, self.at);
+    }
+
+    // Appends one octet.
+    pub fn push_octet(&mut self, b: u8)
+        ensures { Pushes self.old self.new (b ∷ []) }
+    {
+        self.at = push_octet(b, self.out, self.at);
+    }
+
+    // Appends n as decimal text.
+    pub fn push_number(&mut self, n: u64)
+        ensures { Pushes self.old self.new (number_text n) }
+    {
+        self.at = push_number(n, self.out, self.at);
+    }
+
+    // Appends n as decimal text, and the octet b.
+    pub fn push_number_then(&mut self, n: u64, b: u8)
+        ensures { Pushes self.old self.new (number_text n ++ (b ∷ [])) }
+    {
+        self.at = push_number_then(n, b, self.out, self.at);
+    }
+}
 
 // Appends src to the `at` octets in out.
 pub fn push(src: &[u8], out: &mut [u8], at: usize) -> usize

@@ -1,9 +1,9 @@
 // Hexadecimal text, two digits for an octet: read in either case, written in upper case.
 ghost use Rattle.std.specs.Prelude.{◌≡◌, [], ◌∷◌, ◌<◌};
-ghost use Rattle.octets.specs.Append.{Appends};
+ghost use Rattle.octets.specs.Append.{Pushes};
 ghost use Rattle.octets.specs.Hex.{digit_in, hex_digit, hex_text};
 
-use crate::append;
+use crate::append::Cursor;
 
 // The value of a digit, of either case.
 pub fn digit(b: u8) -> Option<u8>
@@ -29,22 +29,18 @@ fn hex_digit(d: u8) -> u8
 }
 
 // Appends b as two digits.
-fn push_pair(b: u8, out: &mut [u8], at: usize) -> usize
-    ensures { Appends out.old at (hex_text (b ∷ [])) result out.new }
+fn push_pair(b: u8, out: &mut Cursor<'_>)
+    ensures { Pushes out.old out.new (hex_text (b ∷ [])) }
 {
-    let high = hex_digit(b / 16);
-    let low = hex_digit(b % 16);
-    let k = append::push_octet(high, out, at);
-    append::push_octet(low, out, k)
+    out.push_octet(hex_digit(b / 16));
+    out.push_octet(hex_digit(b % 16));
 }
 
 // Appends the octets of src, each as two digits.
-pub fn push_hex(src: &[u8], out: &mut [u8], at: usize) -> usize
-    ensures { Appends out.old at (hex_text src.now) result out.new }
+pub fn push_hex(src: &[u8], out: &mut Cursor<'_>)
+    ensures { Pushes out.old out.new (hex_text src.now) }
 {
-    let mut k = at;
     for b in src {
-        k = push_pair(*b, out, k);
+        push_pair(*b, out);
     }
-    k
 }

@@ -3,10 +3,10 @@ use Rattle.address.proofs.WriteLaws.{each_pushed}
 use Rattle.address.proofs.write.push_each.Goals as goal
 
 pub loop-g-init : goal.loop-g-init
-loop-g-init c = (search rules, search (each_pushed, rules))
+loop-g-init c = record { lent = search rules; appends = search (each_pushed, rules) }
 
 pub loop-g-preserved : goal.loop-g-preserved
-loop-g-preserved c = (search rules, search (each_pushed, rules))
+loop-g-preserved c = record { lent = search rules; appends = search (each_pushed, rules) }
 
 pub returns : goal.returns
-returns c = search (each_pushed, rules)
+returns c = record { lent = search rules; appends = search (each_pushed, rules) }

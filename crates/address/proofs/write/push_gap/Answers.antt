@@ -5,4 +5,4 @@ use Rattle.address.proofs.WriteLaws.{gap_then}
 use Rattle.address.proofs.write.push_gap.Goals as goal
 
 pub returns : goal.returns
-returns c = search (gap_then, rules)
+returns c = record { lent = search rules; appends = search (gap_then, rules) }

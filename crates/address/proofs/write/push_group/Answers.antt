@@ -5,4 +5,4 @@ use Rattle.address.proofs.WriteLaws.{group_pushed}
 use Rattle.address.proofs.write.push_group.Goals as goal
 
 pub returns : goal.returns
-returns c = search (group_pushed, rules)
+returns c = record { lent = search rules; appends = search (group_pushed, rules) }

@@ -7,4 +7,4 @@ use Rattle.address.proofs.write.push_ipv4.Goals as goal
 
 pub returns : goal.returns
 unfolding ipv4_text dotted_numbers
-returns c = search (four_pushed, rules)
+returns c = record { lent = search rules; appends = search (four_pushed, rules) }

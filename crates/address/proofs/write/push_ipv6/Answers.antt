@@ -6,4 +6,4 @@ use Rattle.address.proofs.write.push_ipv6.Goals as goal
 
 pub returns : goal.returns
 unfolding ipv6_text groups_of four_groups
-returns c = search rules
+returns c = record { lent = search rules; appends = search rules }

@@ -5,4 +5,4 @@ use Rattle.address.proofs.WriteLaws.{two_pushed}
 use Rattle.address.proofs.write.push_two.Goals as goal
 
 pub returns : goal.returns
-returns c = search (two_pushed, rules)
+returns c = record { lent = search rules; appends = search (two_pushed, rules) }

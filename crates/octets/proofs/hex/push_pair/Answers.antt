@@ -5,4 +5,4 @@ use Rattle.octets.proofs.HexLaws.{hex_pair}
 use Rattle.octets.proofs.hex.push_pair.Goals as goal
 
 pub returns : goal.returns
-returns c = search (hex_pair, rules)
+returns c = record { lent = search rules; appends = search (hex_pair, rules) }
