@@ -3,19 +3,73 @@
 use Prim.Native.Nat.{ℕ, suc, ◌+◌, ◌-◌, ◌*◌, ◌/◌, ◌%◌, ◌≤◌, ◌<◌, min}
 use mathlib.Core.Path.{◌≡◌, refl, sym, ap, ◌∙◌}
 use mathlib.Core.List.{List, [], ◌∷◌}
-use mathlib.Core.Bool.{Bool, true, false, ◌&&◌, and-true, and-false, and-eq-true_iff}
+use mathlib.Core.Bool.{Bool, true, false, ◌&&◌, and-true, and-false, and_assoc, and-eq-true_iff}
 use lib.ListN.{length, get_or, take, drop, set, length-set, length-drop}
 use lib.Dec.{leb, eqb, leb-suc-suc}
 use lib.Seq.{take-nil, take_at}
 use native.Mathlib.Omega.{arith}
 use borrow.Author.Tests.{le-leb, lt-leb, eq-eqb, leb-true}
+use mir.Syntax.{w8}
+use mir.Val.{Fits}
+use Rattle.std.specs.declared.option.Option.{Option}
+use Rattle.std.specs.declared.option.Option.TheVariants.{Some, None}
 use Rattle.octets.specs.Append.{put, next_of, appended, Appends}
 use Rattle.octets.specs.Hex.{is_hex_digit, hex_value, all_hex, is_hex, hex_octets, digit_in}
+use Rattle.octets.proofs.CaseLaws.{by_bool}
 use Rattle.octets.proofs.Laws.{next, put_nil, put_cons}
 use Rattle.octets.proofs.AppendLaws.{append_room}
 use Rattle.octets.proofs.HexLaws.{none_digit, some_digit, length_octets}
 use Rattle.notation.specs.Notation.{octets_before, ReadsOctets}
+use Rattle.notation.specs.Private.{pair_in}
 
+-- ---- a pair
+pair_none : (a b : ℕ) → pair_in a b ≡ None → (is_hex_digit a && is_hex_digit b) ≡ false
+unfolding pair_in
+pair_none a b e =
+    by_bool (is_hex_digit a && is_hex_digit b) _
+    (λ t. let k : ◌≡◌ {A = Option ℕ} (Some (hex_value a * 16 + hex_value b)) None = rw t at e in let z : ◌≡◌ {A = ℕ} 0 1 = cc in absurd (omega arith))
+    (λ t. t)
+
+pair_some : (a b v : ℕ) → pair_in a b ≡ Some v → (is_hex_digit a ≡ true) × (is_hex_digit b ≡ true) × (v ≡ hex_value a * 16 + hex_value b)
+unfolding pair_in
+pair_some a b v e =
+    by_bool (is_hex_digit a && is_hex_digit b) _
+    (λ t.
+    let k : ◌≡◌ {A = Option ℕ} (Some (hex_value a * 16 + hex_value b)) (Some v) = rw t at e in
+    let (p, q) = (and-eq-true_iff (is_hex_digit a) (is_hex_digit b)).0 t in
+    (p, q, cc))
+    (λ t. let k : ◌≡◌ {A = Option ℕ} None (Some v) = rw t at e in let z : ◌≡◌ {A = ℕ} 0 1 = cc in absurd (omega arith))
+
+module _ (a b : ℕ) where
+  pub first_not : None ≡ digit_in a → None ≡ pair_in a b
+  unfolding pair_in
+  first_not e = rw (none_digit a e)
+
+  pub second_not : None ≡ digit_in b → None ≡ pair_in a b
+  unfolding pair_in
+  second_not e = rw (none_digit b e, and-false)
+
+  pub both_digits : (x y : ℕ) → Some x ≡ digit_in a → Some y ≡ digit_in b → Some (x * 16 + y) ≡ pair_in a b
+  unfolding pair_in
+  both_digits x y p q =
+      let (ha, va, la) = some_digit a x p in
+      let (hb, vb, lb) = some_digit b y q in
+      rw (ha, hb, va, vb)
+
+  pub pair_fits : (x y : ℕ) → Some x ≡ digit_in a → Some y ≡ digit_in b → Fits w8 (x * 16 + y)
+  pair_fits x y p q =
+      let (ha, va, la) = some_digit a x p in
+      let (hb, vb, lb) = some_digit b y q in
+      omega arith
+
+  pub high_fits : (x : ℕ) → Some x ≡ digit_in a → Fits w8 (x * 16)
+  high_fits x p =
+      let (ha, va, la) = some_digit a x p in
+      omega arith
+
+pub ruleset pairs = (first_not, second_not, both_digits, pair_fits, high_fits)
+
+-- ---- the pairs of a text
 append_none : (l : List ℕ) (j : ℕ) → appended l j [] ≡ l
 unfolding appended
 append_none l j = rw take-nil (put_nil l j)
@@ -28,55 +82,48 @@ rest_fits t j n = is_hex (drop (j + j) t) && leb (length (drop (j + j) t) / 2) (
 module _ (t l₀ l : List ℕ) (j most : ℕ) (room : most ≡ min (length t / 2) (length l₀)) (same : length l ≡ length l₀)
     (ans : rest_fits t j (length l) ≡ (is_hex t && leb (length t / 2) (length l₀)))
     (buf : appended l j (octets_before (drop (j + j) t)) ≡ appended l₀ 0 (octets_before t)) where
-  module _ (h : j < most) (a : ℕ) (p : a ≡ digit_in (get_or t (j + j) 0)) where
+  module _ (h : j < most) (y : Option ℕ) (p : y ≡ pair_in (get_or t (j + j) 0) (get_or t (j + j + 1) 0)) where
     pair : drop (j + j) t ≡ get_or t (j + j) 0 ∷ get_or t (j + j + 1) 0 ∷ drop (j + 1 + (j + 1)) t
     pair =
         let e : j + j + 1 + 1 ≡ j + 1 + (j + 1) = omega arith in
         next t (j + j) (omega arith) ∙ ap (λ (z : List ℕ). get_or t (j + j) 0 ∷ z) (next t (j + j + 1) (omega arith) ∙ rw e)
 
-    pub octets_first : 15 < a → ReadsOctets t l₀ false l
+    pub octets_bad : y ≡ None → ReadsOctets t l₀ false l
     unfolding is_hex all_hex octets_before
-    octets_first k =
-        let n = none_digit (get_or t (j + j) 0) a p k in
-        record { answers = rw (pair, n, and-false) at ans; leaves = sym (append_none l j) ∙ rw (pair, n) at buf }
+    octets_bad q =
+        let n = pair_none (get_or t (j + j) 0) (get_or t (j + j + 1) 0) (sym p ∙ q) in
+        let w : (is_hex_digit (get_or t (j + j) 0) && (is_hex_digit (get_or t (j + j + 1) 0) && all_hex (drop (j + 1 + (j + 1)) t))) ≡ false =
+        sym (and_assoc (is_hex_digit (get_or t (j + j) 0)) (is_hex_digit (get_or t (j + j + 1) 0)) (all_hex (drop (j + 1 + (j + 1)) t))) ∙ rw n in
+        record { answers = rw (pair, w, and-false) at ans; leaves = sym (append_none l j) ∙ rw (pair, n) at buf }
 
-    module _ (b : ℕ) (q : b ≡ digit_in (get_or t (j + j + 1) 0)) (m : a ≤ 15) where
-      pub octets_second : 15 < b → ReadsOctets t l₀ false l
-      unfolding is_hex all_hex octets_before
-      octets_second k =
-          let n = none_digit (get_or t (j + j + 1) 0) b q k in
-          let (o, v) = some_digit (get_or t (j + j) 0) a p m in
-          record { answers = rw (pair, o, n, and-false) at ans; leaves = sym (append_none l j) ∙ rw (pair, o, n) at buf }
+    module _ (v : ℕ) (q : y ≡ Some v) where
+      less : length l - j ≡ suc (length l - (j + 1))
+      less = omega arith
 
-      module _ (o : b ≤ 15) where
-        less : length l - j ≡ suc (length l - (j + 1))
-        less = omega arith
+      pub octets_turn : rest_fits t (j + 1) (length (set l j v)) ≡ (is_hex t && leb (length t / 2) (length l₀))
+      unfolding is_hex all_hex
+      octets_turn =
+          let (ha, hb, w) = pair_some (get_or t (j + j) 0) (get_or t (j + j + 1) 0) v (sym p ∙ q) in
+          let n = length (drop (j + 1 + (j + 1)) t) in
+          let odd : suc (suc n) % 2 ≡ n % 2 = omega arith in
+          let half : suc (suc n) / 2 ≡ suc (n / 2) = omega arith in
+          rw length-set (rw (pair, ha, hb, odd, half, less, leb-suc-suc (n / 2) (length l - (j + 1))) at ans)
 
-        pub octets_turn : rest_fits t (j + 1) (length (set l j (a * 16 + b))) ≡ (is_hex t && leb (length t / 2) (length l₀))
-        unfolding is_hex all_hex
-        octets_turn =
-            let (ha, va) = some_digit (get_or t (j + j) 0) a p m in
-            let (hb, vb) = some_digit (get_or t (j + j + 1) 0) b q o in
-            let n = length (drop (j + 1 + (j + 1)) t) in
-            let odd : suc (suc n) % 2 ≡ n % 2 = omega arith in
-            let half : suc (suc n) / 2 ≡ suc (n / 2) = omega arith in
-            rw length-set (rw (pair, ha, hb, odd, half, less, leb-suc-suc (n / 2) (length l - (j + 1))) at ans)
-
-        pub octets_turn_f : appended (set l j (a * 16 + b)) (j + 1) (octets_before (drop (j + 1 + (j + 1)) t)) ≡ appended l₀ 0 (octets_before t)
-        unfolding appended octets_before
-        octets_turn_f =
-            let (ha, va) = some_digit (get_or t (j + j) 0) a p m in
-            let (hb, vb) = some_digit (get_or t (j + j + 1) 0) b q o in
-            let vs = take (length l - (j + 1)) (octets_before (drop (j + 1 + (j + 1)) t)) in
-            rw (length-set, va, vb)
-            (sym (put_cons l j (hex_value (get_or t (j + j) 0) * 16 + hex_value (get_or t (j + j + 1) 0)) vs (omega arith)) ∙ rw (pair, ha, hb, less) at buf)
+      pub octets_turn_f : appended (set l j v) (j + 1) (octets_before (drop (j + 1 + (j + 1)) t)) ≡ appended l₀ 0 (octets_before t)
+      unfolding appended octets_before
+      octets_turn_f =
+          let (ha, hb, w) = pair_some (get_or t (j + j) 0) (get_or t (j + j + 1) 0) v (sym p ∙ q) in
+          let vs = take (length l - (j + 1)) (octets_before (drop (j + 1 + (j + 1)) t)) in
+          rw (length-set, w)
+          (sym (put_cons l j (hex_value (get_or t (j + j) 0) * 16 + hex_value (get_or t (j + j + 1) 0)) vs (omega arith)) ∙ rw (pair, ha, hb, less) at buf)
 
   module _ (i : j ≤ most) (h : most ≤ j) where
-    pub octets_full : most < length t / 2 → ReadsOctets t l₀ false l
+    pub octets_full : most < length t / 2 → ReadsOctets t l₀ (leb (length t / 2) most) l
     unfolding appended
     octets_full k =
         let z : length l - j ≡ 0 = omega arith in
         let w = length-drop (j + j) t in
+        rw (lt-leb (length t / 2) most k)
         record {
           answers = rw (z, lt-leb (length (drop (j + j) t) / 2) 0 (omega arith), and-false) at ans;
           leaves = sym (put_nil l j) ∙ rw z at buf;
@@ -99,7 +146,7 @@ module _ (t l₀ l : List ℕ) (j most : ℕ) (room : most ≡ min (length t / 2
 pub octets_start : (t l : List ℕ) → rest_fits t 0 (length l) ≡ (is_hex t && leb (length t / 2) (length l))
 octets_start t l = let z : length l - 0 ≡ length l = omega arith in rw z
 
-pub ruleset readings = (octets_start, octets_full, octets_first, octets_second, octets_done)
+pub ruleset readings = (octets_start, octets_full, octets_bad, octets_done)
 
 -- ---- what the answer says
 before_all : (t : List ℕ) → all_hex t ≡ true → octets_before t ≡ hex_octets t

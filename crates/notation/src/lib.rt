@@ -1,12 +1,12 @@
 // How the programs show octets, texts and refusals, and how they read octets and the length of a buffer.
 #![tactic(auto)]
 
-ghost use Rattle.std.specs.Prelude.{◌≡◌, ◌++◌, min};
+ghost use Rattle.std.specs.Prelude.{◌≡◌, map};
 ghost use Rattle.octets.specs.Append.{Appends};
 ghost use Rattle.octets.specs.Spans.{text_of};
 ghost use Rattle.media.specs.Meaning.{texts_by};
-ghost use Rattle.notation.specs.Notation.{octets_shown, text_shown, text_after, texts_shown, refused_shown, ReadsOctets, length_in};
-ghost use Rattle.notation.specs.Private.{large_in};
+ghost use Rattle.notation.specs.Notation.{octets_shown, text_shown, text_after, texts_after, texts_shown, refused_shown, ReadsOctets, length_in};
+ghost use Rattle.notation.specs.Private.{large_in, pair_in, shown};
 
 use media::Texts;
 use octets::append::{push, push_number, push_octet};
@@ -14,33 +14,30 @@ use octets::decimal::read_number;
 use octets::hex::{digit, push_hex};
 use octets::spans::text;
 use octets::words::digit_run;
-use octets::{Number, Span};
+use octets::{Refusal, Span};
+
+// Appends octets as digits, or the word if there are none.
+fn push_shown(word: &[u8], s: &[u8], out: &mut [u8], at: usize) -> usize
+    ensures { Appends out.old at (shown word.now s.now) result out.new }
+{
+    if s.is_empty() {
+        return push(word, out, at);
+    }
+    push_hex(s, out, at)
+}
 
 // Appends octets as digits, or `-` if there are none.
 pub fn push_octets(s: &[u8], out: &mut [u8], at: usize) -> usize
     ensures { Appends out.old at (octets_shown s.now) result out.new }
 {
-    if s.len() == 0 {
-        return push_octet(b'-', out, at);
-    }
-    push_hex(s, out, at)
+    push_shown(b"-", s, out, at)
 }
 
-// Appends a text as digits, or `empty` if it is empty.
-fn push_text(s: &[u8], out: &mut [u8], at: usize) -> usize
-    ensures { Appends out.old at (text_shown s.now) result out.new }
-{
-    if s.len() == 0 {
-        return push(b"empty", out, at);
-    }
-    push_hex(s, out, at)
-}
-
-// Appends the text of sp in m.
+// Appends the text of sp in m as digits, or `empty` if it is empty.
 fn push_span(m: &[u8], sp: Span, out: &mut [u8], at: usize) -> usize
     ensures { Appends out.old at (text_shown (text_of m.now sp)) result out.new }
 {
-    push_text(text(m, sp), out, at)
+    push_shown(b"empty", text(m, sp), out, at)
 }
 
 // Appends a comma and the text of sp in m.
@@ -51,51 +48,44 @@ fn push_next(m: &[u8], sp: Span, out: &mut [u8], at: usize) -> usize
     push_span(m, sp, out, k)
 }
 
-// Appends two texts, a comma before each.
-fn push_both(m: &[u8], a: Span, b: Span, out: &mut [u8], at: usize) -> usize
-    ensures { Appends out.old at (text_after (text_of m.now a) ++ text_after (text_of m.now b)) result out.new }
+// Appends the texts of the spans, a comma before each.
+fn push_rest(m: &[u8], spans: &[Span], out: &mut [u8], at: usize) -> usize
+    ensures { Appends out.old at (texts_after (map (text_of m.now) spans.now)) result out.new }
 {
-    let k = push_next(m, a, out, at);
-    push_next(m, b, out, k)
+    let mut k = at;
+    for sp in spans {
+        k = push_next(m, *sp, out, k);
+    }
+    k
 }
 
 // Appends the texts of x in m with commas between them, or `-` if there are none.
 pub fn push_texts(m: &[u8], x: Texts, out: &mut [u8], at: usize) -> usize
     ensures { Appends out.old at (texts_shown (texts_by m.now x)) result out.new }
 {
-    let n = x.count;
-    let first = x.first;
-    let second = x.second;
-    let third = x.third;
-    if n == 0 {
+    let spans = x.as_slice();
+    if spans.is_empty() {
         return push_octet(b'-', out, at);
     }
-    let k = push_span(m, first, out, at);
-    if n == 1 {
-        return k;
-    }
-    if n == 2 {
-        return push_next(m, second, out, k);
-    }
-    push_both(m, second, third, out, k)
+    let k = push_span(m, spans[0], out, at);
+    push_rest(m, &spans[1..], out, k)
 }
 
-// Appends a refusal with number n.
-pub fn push_refused(n: u8, out: &mut [u8], at: usize) -> usize
-    ensures { Appends out.old at (refused_shown n) result out.new }
+// Appends a refusal.
+pub fn push_refused(e: Refusal, out: &mut [u8], at: usize) -> usize
+    ensures { Appends out.old at (refused_shown e) result out.new }
 {
     let k = push(b"refused-", out, at);
-    push_number(n as u64, out, k)
+    push_number(e.number() as u64, out, k)
 }
 
-// The smaller of two numbers.
-pub fn smaller(a: usize, b: usize) -> usize
-    ensures { result ≡ min a b }
+// The octet that two digits stand for.
+fn read_pair(a: u8, b: u8) -> Option<u8>
+    ensures { result ≡ pair_in a b }
 {
-    if b < a {
-        return b;
-    }
-    a
+    let high = digit(a)?;
+    let low = digit(b)?;
+    Some(high * 16 + low)
 }
 
 // Puts the octets that the pairs of digits in t stand for at the front of dst, up to the first pair that is not two digits or
@@ -104,49 +94,32 @@ pub fn read_octets(t: &[u8], dst: &mut [u8]) -> bool
     ensures { ReadsOctets t.now dst.old result dst.new }
 {
     let n = t.len() / 2;
-    let most = smaller(n, dst.len());
-    let mut j = 0;
-    while j < most {
-        let a = digit(t[j + j]);
-        if 15 < a {
+    let most = n.min(dst.len());
+    for j in 0..most {
+        let Some(b) = read_pair(t[j + j], t[j + j + 1]) else {
             return false;
-        }
-        let b = digit(t[j + j + 1]);
-        if 15 < b {
-            return false;
-        }
-        dst[j] = a * 16 + b;
-        j += 1;
+        };
+        dst[j] = b;
     }
-    if most < n {
-        return false;
-    }
-    t.len() % 2 == 0
+    n <= most && t.len() % 2 == 0
 }
 
 // The length in a text that is not a number up to 65535.
-fn large(t: &[u8]) -> Number
+fn large(t: &[u8]) -> Option<u16>
     ensures { result ≡ large_in t.now }
 {
-    if t.len() < 2 {
-        return Number::Bad;
+    if t.len() < 2 || t[0] == b'0' || !digit_run(t) {
+        return None;
     }
-    if t[0] == b'0' {
-        return Number::Bad;
-    }
-    if digit_run(t) {
-        return Number::Value(65535);
-    }
-    Number::Bad
+    Some(u16::MAX)
 }
 
 // The length of a buffer that t names, capped at 65535: nothing that the card writes needs more.
-pub fn read_length(t: &[u8]) -> Number
+pub fn read_length(t: &[u8]) -> Option<u16>
     ensures { result ≡ length_in t.now }
 {
-    let x = read_number(t);
-    match x {
-        Number::Value(_) => x,
-        Number::Bad => large(t),
+    match read_number(t) {
+        Some(n) => Some(n),
+        None => large(t),
     }
 }

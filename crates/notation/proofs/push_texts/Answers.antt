@@ -1,17 +1,12 @@
 -- `push_texts` meets its contract. Each text is appended after those before it.
 -- Assumes nothing.
 use borrow.Author.Rules.{rules}
+use Rattle.octets.proofs.Pick.{flags}
 use Rattle.notation.proofs.Laws.{joins}
 use Rattle.notation.proofs.push_texts.Goals as goal
 
-pub returns-then-n-eq0 : goal.returns-then-n-eq0
-returns-then-n-eq0 c = search (joins, rules)
-
-pub returns-then-n-eq1 : goal.returns-then-n-eq1
-returns-then-n-eq1 c = search (joins, rules)
-
-pub returns-then-n-eq2 : goal.returns-then-n-eq2
-returns-then-n-eq2 c = search (joins, rules)
+pub returns-then-is_empty : goal.returns-then-is_empty
+returns-then-is_empty c = search (joins, flags, rules)
 
 pub returns : goal.returns
-returns c = search (joins, rules)
+returns c = search (joins, flags, rules)

@@ -4,8 +4,8 @@ use borrow.Author.Rules.{rules}
 use Rattle.notation.proofs.Laws.{lengths}
 use Rattle.notation.proofs.read_length.Goals as goal
 
-pub returns-in-Value : goal.returns-in-Value
-returns-in-Value c = search (lengths, rules)
+pub returns-in-Some : goal.returns-in-Some
+returns-in-Some c = search (lengths, rules)
 
-pub returns-in-Bad : goal.returns-in-Bad
-returns-in-Bad c = search (lengths, rules)
+pub returns-in-None : goal.returns-in-None
+returns-in-None c = search (lengths, rules)
