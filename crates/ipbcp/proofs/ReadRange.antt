@@ -10,8 +10,9 @@ use lib.ListN.{length, drop, length-append}
 use lib.Dec.{eqb, leb, ltb}
 use native.Mathlib.Omega.{arith}
 use borrow.Author.Tests.{leb-true, ltb-true, eqb-true, le-leb, lt-ltb, eq-eqb, ne_eqb}
-use Rattle.octets.specs.declared.Number.{Number}
-use Rattle.octets.specs.declared.Number.TheVariants.{Value, Bad}
+use Rattle.std.specs.Prelude.{Some, None}
+use Rattle.std.specs.Prelude as answer
+use Rattle.octets.specs.declared.Refusal.TheVariants.{MessageTooLong, WrongLine}
 use Rattle.octets.specs.Split.{has, before, on_first, split_on, part_at}
 use Rattle.octets.specs.Decimal.{all_digits, value_from, shortest, number_from, read_number, on_number}
 use Rattle.octets.specs.Words.{begins, same}
@@ -20,15 +21,12 @@ use Rattle.texts.specs.Tokens.{token, none_empty, token_count, after_blank}
 use Rattle.sdp.specs.Lines.{lines, all_ended, is_plain, all_plain, is_line, all_lines, in_lines}
 use Rattle.sdp.proofs.PlainLaws.{plain_parts}
 use Rattle.address.specs.declared.Address.{Address}
-use Rattle.address.specs.declared.Parsed.{Parsed}
-use Rattle.address.specs.declared.Parsed.TheVariants.{Unicast, Unreadable}
-use Rattle.address.specs.Kinds.{is_unicast, on_parsed}
+use Rattle.address.specs.Kinds.{is_unicast, on_address}
 use Rattle.media.specs.Stream.{Stream, bare_stream, rtpmap_word, fmtp_word, ptime_word, rtpmap_lines, fmtp_lines, octets_together, attributes_fit, most_attributes}
 use Rattle.media.specs.Attributes.{media_of, fitting, with_rtpmap, with_fmtp, with_ptime, rtpmap_of, fmtp_of, ptime_of, is_attribute, attribute_of}
 use Rattle.description.specs.Draft.{Draft, empty_draft, reached, needed, version_line, is_origin, origin_line, session_line, connection_of, with_address, connection_line, is_time, time_line, ipbcp_line, with_stream, media_line, ipbcp_word, attribute_line, skipped_letters, after_field, after_line}
 use Rattle.ipbcp.specs.declared.MessageType.{MessageType}
 use Rattle.ipbcp.specs.declared.Head.{Head}
-use Rattle.ipbcp.specs.declared.Head.TheVariants.{Typed, Untyped}
 use Rattle.ipbcp.specs.Types.{head_in}
 use Rattle.ipbcp.specs.Reading.{refused, typed, described, after_lines, concluded, is_described, by_head, read_message, most_read}
 use Rattle.ipbcp.specs.Writing.{Content, message_text, is_token, all_texts_plain, right_media, right_attributes, right_content, message_octets, most_written, voice}
@@ -58,15 +56,15 @@ every_cond P false x y p q = q refl
 every_if : {A : Type 0} (P : A → Type 0) (b : Bool) (x : Option A) → (b ≡ true → every P x) → every P (cond b x none)
 every_if P b x p = every_cond P b x none p (λ _. every_none P)
 
-every_number : {A : Type 0} (P : A → Type 0) (z : Number) (go : ℕ → Option A) → ((n : ℕ) → z ≡ Value n → every P (go n)) → every P (on_number z go none)
+every_number : {A : Type 0} (P : A → Type 0) (z : answer.Option ℕ) (go : ℕ → Option A) → ((n : ℕ) → z ≡ Some n → every P (go n)) → every P (on_number z go none)
 unfolding on_number
-every_number P (Value n) go p = p n refl
-every_number P Bad go p = every_none P
+every_number P (Some n) go p = p n refl
+every_number P None go p = every_none P
 
-every_parsed : {A : Type 0} (P : A → Type 0) (z : Parsed) (go : Address → Option A) → ((a : Address) → every P (go a)) → every P (on_parsed z go none)
-unfolding on_parsed
-every_parsed P (Unicast a) go p = p a
-every_parsed P Unreadable go p = every_none P
+every_address : {A : Type 0} (P : A → Type 0) (z : answer.Option Address) (go : Address → Option A) → ((a : Address) → every P (go a)) → every P (on_address z go none)
+unfolding on_address
+every_address P (Some a) go p = p a
+every_address P None go p = every_none P
 
 every_elim : {A B : Type 0} (P : A → Type 0) (Q : B → Type 0) (o : Option A) (go : A → Option B) → every P o → ((x : A) → P x → every Q (go x))
     → every Q (Option-elim o none go)
@@ -165,12 +163,12 @@ token_right v n k h e l =
     rw (lt-ltb 0 (length (token k v)) (some_part (split_on 32 v) k full (omega arith)), bare, plain)
 
 -- ---- numbers
-told_value : (a b : Bool) (x n : ℕ) → cond a (cond b (Value x) Bad) Bad ≡ Value n → (b ≡ true) × (x ≡ n)
+told_value : (a b : Bool) (x n : ℕ) → cond a (cond b (Some x) None) None ≡ Some n → (b ≡ true) × (x ≡ n)
 told_value true true x n q = (refl, cc)
 told_value true false x n q = let z : ◌≡◌ {A = ℕ} 0 1 = cc in absurd (omega arith)
 told_value false b x n q = let z : ◌≡◌ {A = ℕ} 0 1 = cc in absurd (omega arith)
 
-number_most : (s : List ℕ) (n : ℕ) → read_number s ≡ Value n → n ≤ 65535
+number_most : (s : List ℕ) (n : ℕ) → read_number s ≡ Some n → n ≤ 65535
 unfolding read_number number_from
 number_most s n q =
     let (t, e) = told_value (shortest s) (all_digits s && leb (value_from 0 s) 65535) (value_from 0 s) n q in
@@ -277,7 +275,7 @@ connection_kept : (d : Draft) (v : List ℕ) → every Kept (connection_line d v
 unfolding connection_line with_address
 connection_kept d v =
     every_if Kept (eqb d.had 3) _
-    (λ _. every_parsed Kept (connection_of v) _
+    (λ _. every_address Kept (connection_of v) _
     (λ a. every_some Kept (record { had = 4; address = a; stream = d.stream }) (λ e. absurd (omega arith))))
 
 -- the media line or an attribute, which makes the stream
@@ -340,7 +338,7 @@ module _ (k : MessageType) (a : Address) (s : Stream) where
       (λ h. let q : described j d.address d.stream ≡ described k a s = rw h at e in
       let z : d.stream ≡ s = cc in
       rw (← z) (p (eqb-true d.had 7 h)))
-      (λ h. let q : refused 10 ≡ described k a s = rw h at e in absurd (let z : ◌≡◌ {A = ℕ} 0 1 = cc in omega arith))
+      (λ h. let q : refused WrongLine ≡ described k a s = rw h at e in absurd (let z : ◌≡◌ {A = ℕ} 0 1 = cc in omega arith))
 
   lined_right : (m : List ℕ) (j : MessageType) → in_lines m ≡ true → concluded j (after_lines empty_draft (lines m)) ≡ described k a s → Right s
   unfolding in_lines
@@ -348,13 +346,13 @@ module _ (k : MessageType) (a : Address) (s : Stream) where
       let all = ((and-eq-true_iff (all_ended m) (all_lines (lines m))).0 h).1 in
       concluded_right j (after_lines empty_draft (lines m)) (lines_kept empty_draft start_kept (lines m) all) e
 
-  head_right : (m : List ℕ) → length m ≤ most_read → (x : Head) → x ≡ head_in m → by_head m x ≡ described k a s → Right s
+  head_right : (m : List ℕ) → length m ≤ most_read → (x : answer.Option Head) → x ≡ head_in m → by_head m x ≡ described k a s → Right s
   unfolding by_head
-  head_right m l Untyped q e = let z : ◌≡◌ {A = ℕ} 0 1 = cc in absurd (omega arith)
-  head_right m l (Typed version j) q e = go (eqb version 1) (is_described j) e
+  head_right m l None q e = let z : ◌≡◌ {A = ℕ} 0 1 = cc in absurd (omega arith)
+  head_right m l (Some h) q e = go (eqb h.version 1) (is_described h.kind) e
     where
-      go : (t u : Bool) → cond (t && u) (concluded j (after_lines empty_draft (lines m))) (typed version j) ≡ described k a s → Right s
-      go true true p = lined_right m j (read_lined m (Typed version j) q version j refl) p
+      go : (t u : Bool) → cond (t && u) (concluded h.kind (after_lines empty_draft (lines m))) (typed h.version h.kind) ≡ described k a s → Right s
+      go true true p = lined_right m h.kind (read_lined m (Some h) q h refl) p
       go true false p = let z : ◌≡◌ {A = ℕ} 0 1 = cc in absurd (omega arith)
       go false u p = let z : ◌≡◌ {A = ℕ} 0 1 = cc in absurd (omega arith)
 
@@ -365,7 +363,7 @@ unfolding read_message
 read_right m k a s e =
     by_bool (leb (length m) most_read) _
     (λ h. head_right k a s m (leb-true (length m) most_read h) (head_in m) refl (rw h at e))
-    (λ h. let q : refused 8 ≡ described k a s = rw h at e in absurd (let z : ◌≡◌ {A = ℕ} 0 1 = cc in omega arith))
+    (λ h. let q : refused MessageTooLong ≡ described k a s = rw h at e in absurd (let z : ◌≡◌ {A = ℕ} 0 1 = cc in omega arith))
 
 -- ---- writing it: nothing in range is refused, where media and transport are as short as those of audio and RTP/AVP
 pub content_octets : (own : Address) (c : Content) → is_unicast own ≡ true → right_content c ≡ true → voice c → message_octets own c ≡ some (message_text own c)

@@ -22,8 +22,8 @@ use Rattle.sdp.specs.Written.{lines_text}
 use Rattle.sdp.proofs.WrittenLines.{lines_written, in_lines_written}
 use Rattle.address.specs.declared.Address.{Address}
 use Rattle.address.specs.declared.Address.TheVariants.{V4, V6}
-use Rattle.address.specs.declared.Parsed.TheVariants.{Unicast}
-use Rattle.address.specs.Kinds.{is_unicast, on_parsed}
+use Rattle.std.specs.Prelude.{Some}
+use Rattle.address.specs.Kinds.{is_unicast, on_address}
 use Rattle.address.specs.Canonical.{address_text}
 use Rattle.address.specs.Back.{fits, read_like}
 use Rattle.address.proofs.RoundTrip.{address_back}
@@ -36,14 +36,13 @@ use Rattle.media.proofs.LimitLaws.{together_append}
 use Rattle.description.specs.Draft.{Draft, empty_draft, reached, needed, version_line, in_word, is_origin, origin_line, session_line, address_of, connection_of, with_address, connection_line, is_time, time_line, ipbcp_line, with_stream, media_line, ipbcp_word, attribute_line, after_field, after_line}
 use Rattle.ipbcp.specs.declared.MessageType.{MessageType}
 use Rattle.ipbcp.specs.declared.MessageType.TheVariants.{Request, Accepted, Confused, Rejected}
-use Rattle.ipbcp.specs.declared.Head.TheVariants.{Typed}
 use Rattle.ipbcp.specs.Types.{type_word, type_named, typed_from, head_from, without_blank, first_head, head_in, ipbcp_start}
 use Rattle.ipbcp.specs.Reading.{described, after_lines, concluded, is_described, by_head, read_message, most_read}
 use Rattle.ipbcp.specs.Writing.{Content, request_content, accepted_content, confused_content, rejected_content, family_word, host_text, version_text, origin_text, session_text, connection_text, time_text, ipbcp_text, ptime_lines, stream_lines, content_type, media_lines, message_lines, message_text, right_media, right_attributes, right_content, message_octets, reading_of, most_written}
 use Rattle.ipbcp.proofs.WrittenLaws.{media_parts, token_parts, attribute_parts, message_lines_lem}
 
 -- ---- version and type
-head_text : (k : MessageType) → head_from (without_blank (drop (length ipbcp_start) (ipbcp_text k))) ≡ Typed 1 k
+head_text : (k : MessageType) → head_from (without_blank (drop (length ipbcp_start) (ipbcp_text k))) ≡ Some (record { version = 1; kind = k })
 unfolding ipbcp_text type_word head_from typed_from without_blank token_count none_empty split_on on_first part_at read_number number_from shortest all_digits is_digit value_from on_number type_named same begins Option-elim
 head_text Request = refl
 head_text Accepted = refl
@@ -55,7 +54,7 @@ opening_head : (own : Address) (k : MessageType) (ts : List (List ℕ))
 unfolding first_head begins origin_text connection_text ipbcp_text
 opening_head own k ts = refl
 
-message_head : (own : Address) (c : Content) → first_head (message_lines own c) ≡ Typed 1 (content_type c)
+message_head : (own : Address) (c : Content) → first_head (message_lines own c) ≡ Some (record { version = 1; kind = content_type c })
 unfolding message_lines
 message_head own c = opening_head own (content_type c) (media_lines c) ∙ head_text (content_type c)
 
@@ -77,7 +76,7 @@ unfolding is_origin token_count none_empty part_at family_word same begins
 origin_is (V4 n) = rw (origin_split (V4 n), lt-ltb 0 (length (address_text (V4 n))) (address_some (V4 n)))
 origin_is (V6 h l) = rw (origin_split (V6 h l), lt-ltb 0 (length (address_text (V6 h l))) (address_some (V6 h l)))
 
-connection_is : (a : Address) → fits a → is_unicast a ≡ true → connection_of (host_text a) ≡ Unicast a
+connection_is : (a : Address) → fits a → is_unicast a ≡ true → connection_of (host_text a) ≡ Some a
 unfolding connection_of token_count none_empty part_at family_word same begins address_of read_like
 connection_is (V4 n) f u =
     let b = address_back (V4 n) f u in
@@ -92,7 +91,7 @@ six_lines own = record { had = 6; address = own; stream = empty_draft.stream }
 
 opening_read : (own : Address) → fits own → is_unicast own ≡ true → (k : MessageType) (ts : List (List ℕ))
     → after_lines empty_draft (version_text ∷ origin_text own ∷ session_text ∷ connection_text own ∷ time_text ∷ ipbcp_text k ∷ ts) ≡ after_lines (six_lines own) ts
-unfolding after_lines after_line after_field empty_draft version_line needed reached same begins origin_text origin_line session_line connection_text connection_line on_parsed with_address time_line is_time token_count none_empty split_on on_first part_at digit_run all_digits is_digit ipbcp_text attribute_line ipbcp_line six_lines Option-elim
+unfolding after_lines after_line after_field empty_draft version_line needed reached same begins origin_text origin_line session_line connection_text connection_line on_address with_address time_line is_time token_count none_empty split_on on_first part_at digit_run all_digits is_digit ipbcp_text attribute_line ipbcp_line six_lines Option-elim
 opening_read own f u k ts = rw (origin_is own, connection_is own f u)
 
 -- ---- the media line and its attributes
@@ -222,7 +221,7 @@ module _ (own : Address) (f : fits own) (u : is_unicast own ≡ true) where
   unfolding concluded seven_lines
   described_read k s h j = rw (opening_read own f u k (stream_lines s), stream_read own s h j)
 
-  by_kind : (c : Content) → right_content c ≡ true → (m : List ℕ) → lines m ≡ message_lines own c → by_head m (Typed 1 (content_type c)) ≡ reading_of own c
+  by_kind : (c : Content) → right_content c ≡ true → (m : List ℕ) → lines m ≡ message_lines own c → by_head m (Some (record { version = 1; kind = content_type c })) ≡ reading_of own c
   unfolding by_head is_described content_type right_content reading_of message_lines media_lines
   by_kind (request_content s) h m e = let a = (and-eq-true_iff (right_media s) (right_attributes s)).0 h in rw e (described_read Request s a.0 a.1)
   by_kind (accepted_content s) h m e = let a = (and-eq-true_iff (right_media s) (right_attributes s)).0 h in rw e (described_read Accepted s a.0 a.1)

@@ -1,5 +1,6 @@
--- Document 01, "Message, version 1": the version and the type of a message, and number 9.
-use Rattle.std.specs.Prelude.{ℕ, List, [], ◌∷◌, ◌++◌, cond, drop, length, eqb, leb}
+-- Document 01, "Message, version 1": the version and the type of a message, and number 9 (`Unreadable`).
+use Rattle.std.specs.Prelude.{ℕ, List, [], ◌∷◌, ◌++◌, cond, drop, length, eqb, leb, Some, None}
+use Rattle.std.specs.Prelude as code
 use Rattle.std.proofs.Math.Option.{Option, some, Option-elim, map}
 use Rattle.octets.specs.Chain.{when, number}
 use Rattle.octets.specs.Text.{ascii, blank}
@@ -10,7 +11,6 @@ use Rattle.description.specs.Draft.{ipbcp_word}
 use Rattle.ipbcp.specs.declared.MessageType.{MessageType}
 use Rattle.ipbcp.specs.declared.MessageType.TheVariants.{Request, Accepted, Confused, Rejected}
 use Rattle.ipbcp.specs.declared.Head.{Head}
-use Rattle.ipbcp.specs.declared.Head.TheVariants.{Typed, Untyped}
 
 -- how the ipbcp line begins
 abbrev pub ipbcp_start : List ℕ
@@ -37,11 +37,11 @@ typed_from s =
     when (eqb (token_count s) 2)
     (number (token 0 s) λ version.
     when (leb version 255)
-    (map (Typed version) (type_named (token 1 s))))
+    (map (λ kind. record { version = version; kind = kind }) (type_named (token 1 s))))
 
--- the same as a `Head`; number 9 refuses `Untyped`
-unfoldable pub head_from : List ℕ → Head
-head_from s = Option-elim (typed_from s) Untyped (λ h. h)
+-- the same for the code; `Unreadable` refuses `None`
+unfoldable pub head_from : List ℕ → code.Option Head
+head_from s = Option-elim (typed_from s) None (λ h. Some h)
 
 -- s without the blank at its start, if it has one
 unfoldable pub without_blank : List ℕ → List ℕ
@@ -49,10 +49,10 @@ without_blank [] = []
 without_blank (b ∷ bs) = cond (eqb b blank) bs (b ∷ bs)
 
 -- what the first line that begins `a=ipbcp:` says after that
-unfoldable pub first_head : List (List ℕ) → Head
-first_head [] = Untyped
+unfoldable pub first_head : List (List ℕ) → code.Option Head
+first_head [] = None
 first_head (t ∷ ts) = cond (begins ipbcp_start t) (head_from (without_blank (drop (length ipbcp_start) t))) (first_head ts)
 
 -- the version and the type of m, if it is made of lines
-unfoldable pub head_in : List ℕ → Head
-head_in m = cond (in_lines m) (first_head (lines m)) Untyped
+unfoldable pub head_in : List ℕ → code.Option Head
+head_in m = cond (in_lines m) (first_head (lines m)) None

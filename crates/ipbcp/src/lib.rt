@@ -12,17 +12,15 @@ ghost use Rattle.ipbcp.specs.Private.{after_text, complete, ReadsLater, ReadsMed
 ghost use Rattle.ipbcp.specs.Meaning.{reading_in};
 
 use address::Address;
-use description::Extended;
-use media::{Stream, Taken};
-use octets::Span;
+use media::Stream;
 use octets::spans::{after, text};
-use sdp::Line;
+use octets::{Refusal, Span};
 
 // The longest message that is read.
 pub const MOST_READ: usize = 512;
 
 // The type of a message.
-#[derive(Clone, Copy)]
+#[derive(Clone, Copy, PartialEq, Eq)]
 pub enum MessageType {
     Request,
     Accepted,
@@ -30,35 +28,32 @@ pub enum MessageType {
     Rejected,
 }
 
-// The type that a word names.
+// What the ipbcp line says.
 #[derive(Clone, Copy)]
-enum Word {
-    Known(MessageType),
-    Unknown,
+pub struct Head {
+    pub version: u8,
+    pub kind: MessageType,
 }
 
-// What the ipbcp line says: the version and the type, if both are readable.
+// What a Request or Accepted of version 1 says. The texts of the stream are places in the message.
 #[derive(Clone, Copy)]
-pub enum Head {
-    Typed { version: u8, kind: MessageType },
-    Untyped,
+pub struct Description {
+    pub address: Address,
+    pub stream: Stream,
 }
 
-// The answer to a message.
+// The answer to a message that is not refused.
 #[derive(Clone, Copy)]
 pub enum Message {
-    // A refusal's number.
-    Refused(u8),
     // Another version, or a Confused or Rejected: nothing more is read.
     Typed {
         version: u8,
         kind: MessageType,
     },
-    // A Request or Accepted of version 1. The texts of the stream are places in the message.
+    // A Request or Accepted of version 1.
     Described {
         kind: MessageType,
-        address: Address,
-        stream: Stream,
+        description: Description,
     },
 }
 
@@ -72,180 +67,147 @@ pub enum Body {
 }
 
 // The stream s with the lines of m from `from` on, which come after its media line.
-fn later_lines(s: Stream, m: &[u8], from: usize) -> Taken
+fn later_lines(s: Stream, m: &[u8], from: usize) -> Option<Stream>
     ensures { ReadsLater m.now s from result }
 {
     let mut stream = s;
     let mut i = from;
     while i < m.len() {
-        let Line::Text {
-            letter,
-            value,
-            next,
-        } = sdp::next_line(m, i)
-        else {
-            return Taken::Wrong;
-        };
-        let Taken::Stream(more) = description::later_line(stream, m, letter, value) else {
-            return Taken::Wrong;
-        };
-        stream = more;
-        i = next;
+        let line = sdp::next_line(m, i)?;
+        stream = description::later_line(stream, m, line.letter, line.value)?;
+        i = line.next;
     }
-    Taken::Stream(stream)
+    Some(stream)
 }
 
 // The stream of the media line whose value is the text of v in m, with the lines from `from` on after it.
-fn media_lines(m: &[u8], v: Span, from: usize) -> Taken
+fn media_lines(m: &[u8], v: Span, from: usize) -> Option<Stream>
     ensures { ReadsMedia m.now v from result }
 {
-    let Taken::Stream(s) = media::read_media(m, v) else {
-        return Taken::Wrong;
-    };
+    let s = media::read_media(m, v)?;
     later_lines(s, m, from)
 }
 
 // The stream of the lines of m from `from` on, which come after the ipbcp line.
-fn read_stream(m: &[u8], from: usize) -> Taken
+fn read_stream(m: &[u8], from: usize) -> Option<Stream>
     ensures { ReadsStream m.now from result }
 {
     let mut i = from;
     while i < m.len() {
-        let Line::Text {
-            letter,
-            value,
-            next,
-        } = sdp::next_line(m, i)
-        else {
-            return Taken::Wrong;
-        };
-        if letter == b'm' {
-            return media_lines(m, value, next);
+        let line = sdp::next_line(m, i)?;
+        if line.letter == b'm' {
+            return media_lines(m, line.value, line.next);
         }
-        if description::is_skipped(letter, text(m, value)) {
-            i = next;
-        } else {
-            return Taken::Wrong;
+        if !description::is_skipped(line.letter, text(m, line.value)) {
+            return None;
         }
+        i = line.next;
     }
-    Taken::Wrong
+    None
 }
 
 // A message of this type says more than its type.
 fn is_described(kind: MessageType) -> bool
     ensures { result ≡ is_described kind }
 {
-    match kind {
-        MessageType::Request => true,
-        MessageType::Accepted => true,
-        MessageType::Confused => false,
-        MessageType::Rejected => false,
-    }
+    matches!(kind, MessageType::Request | MessageType::Accepted)
 }
 
-// The answer to m, which has a wrong line or lacks one: only its version and type, or number 9 or 10.
-fn by_type(m: &[u8]) -> Message
+// The answer to m, which has a wrong line or lacks one: only its version and type, or Unreadable or WrongLine.
+fn by_type(m: &[u8]) -> Result<Message, Refusal>
     requires { complete (after_text empty_draft m.now) ≡ none }
     ensures { reading_in m.now result ≡ some (by_head m.now (head_in m.now)) }
 {
-    let Head::Typed { version, kind } = types::read_head(m) else {
-        return Message::Refused(9);
+    let Some(h) = types::read_head(m) else {
+        return Err(Refusal::Unreadable);
     };
-    if version != 1 {
-        return Message::Typed { version, kind };
+    if h.version == 1 && is_described(h.kind) {
+        return Err(Refusal::WrongLine);
     }
-    if is_described(kind) {
-        return Message::Refused(10);
-    }
-    Message::Typed { version, kind }
+    Ok(Message::Typed {
+        version: h.version,
+        kind: h.kind,
+    })
 }
 
 // The answer to m, which is only this version and type; of the lines from `from` on, only the form is checked.
-fn type_alone(version: u8, kind: MessageType, m: &[u8], from: usize) -> Message
-    requires { TypeAlone m.now version kind from }
+fn type_alone(h: Head, m: &[u8], from: usize) -> Result<Message, Refusal>
+    requires { TypeAlone m.now h from }
     ensures { reading_in m.now result ≡ some (by_head m.now (head_in m.now)) }
 {
     if sdp::in_lines(after(m, from)) {
-        return Message::Typed { version, kind };
+        return Ok(Message::Typed {
+            version: h.version,
+            kind: h.kind,
+        });
     }
-    Message::Refused(9)
+    Err(Refusal::Unreadable)
 }
 
 // The answer to m, a Request or Accepted of version 1, whose lines from `from` on come after the ipbcp line.
-fn describe(kind: MessageType, address: Address, m: &[u8], from: usize) -> Message
+fn describe(kind: MessageType, address: Address, m: &[u8], from: usize) -> Result<Message, Refusal>
     requires { Describes m.now kind address from }
     ensures { reading_in m.now result ≡ some (by_head m.now (head_in m.now)) }
 {
-    let Taken::Stream(s) = read_stream(m, from) else {
+    let Some(s) = read_stream(m, from) else {
         if sdp::in_lines(after(m, from)) {
-            return Message::Refused(10);
+            return Err(Refusal::WrongLine);
         }
-        return Message::Refused(9);
+        return Err(Refusal::Unreadable);
     };
     let stream = media::inside::keep_inside(s, m);
-    Message::Described {
+    Ok(Message::Described {
         kind,
-        address,
-        stream,
-    }
+        description: Description { address, stream },
+    })
 }
 
 // The answer to m, whose lines before `from` are right; the last of them is the ipbcp line, which says h.
-fn read_typed(h: Head, address: Address, m: &[u8], from: usize) -> Message
+fn read_typed(h: Option<Head>, address: Address, m: &[u8], from: usize) -> Result<Message, Refusal>
     requires { Reached m.now h address from }
     ensures { reading_in m.now result ≡ some (by_head m.now (head_in m.now)) }
 {
-    let Head::Typed { version, kind } = h else {
-        return Message::Refused(9);
+    let Some(h) = h else {
+        return Err(Refusal::Unreadable);
     };
-    if version != 1 {
-        return type_alone(version, kind, m, from);
+    if h.version == 1 && is_described(h.kind) {
+        return describe(h.kind, address, m, from);
     }
-    if is_described(kind) {
-        return describe(kind, address, m, from);
-    }
-    type_alone(version, kind, m, from)
+    type_alone(h, m, from)
 }
 
 // The answer to m, which is not too long.
-fn read_short(m: &[u8]) -> Message
+fn read_short(m: &[u8]) -> Result<Message, Refusal>
     ensures { reading_in m.now result ≡ some (by_head m.now (head_in m.now)) }
 {
     let mut p = description::start();
     let mut i = 0;
     while i < m.len() {
-        let Line::Text {
-            letter,
-            value,
-            next,
-        } = sdp::next_line(m, i)
-        else {
+        let Some(line) = sdp::next_line(m, i) else {
             return by_type(m);
         };
-        let t = text(m, value);
-        if description::is_ipbcp(letter, t) {
-            let had = p.had;
-            if had < 5 {
+        let t = text(m, line.value);
+        if description::is_ipbcp(line.letter, t) {
+            if p.had < 5 {
                 return by_type(m);
             }
-            let address = p.address;
-            return read_typed(types::read_value(t), address, m, next);
+            return read_typed(types::read_value(t), p.address, m, line.next);
         }
-        let Extended::Go(more) = description::preamble_line(p, letter, t) else {
+        let Some(more) = description::preamble_line(p, line.letter, t) else {
             return by_type(m);
         };
         p = more;
-        i = next;
+        i = line.next;
     }
     by_type(m)
 }
 
 // What m says.
-pub fn read(m: &[u8]) -> Message
+pub fn read(m: &[u8]) -> Result<Message, Refusal>
     ensures { reading_in m.now result ≡ some (read_message m.now) }
 {
     if MOST_READ < m.len() {
-        return Message::Refused(8);
+        return Err(Refusal::MessageTooLong);
     }
     read_short(m)
 }

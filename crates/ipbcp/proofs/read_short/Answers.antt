@@ -1,5 +1,5 @@
 use borrow.Author.Rules.{rules}
-use Rattle.ipbcp.proofs.WholeLaws.{preamble_start, preambles}
+use Rattle.ipbcp.proofs.WholeLaws.{preamble_start, preambles, preamble_early}
 use Rattle.sdp.proofs.CutLaws.{loop_falls}
 use Rattle.ipbcp.proofs.read_short.Goals as goal
 
@@ -9,8 +9,8 @@ loop-i-init c = search (preamble_start, rules)
 pub by_type-requires : goal.by_type-requires
 by_type-requires c = search (preambles, rules)
 
-pub by_type-requires-then-had-lt5 : goal.by_type-requires-then-had-lt5
-by_type-requires-then-had-lt5 c = search (preambles, rules)
+pub by_type-requires-then-p-lt5 : goal.by_type-requires-then-p-lt5
+by_type-requires-then-p-lt5 c = preamble_early _ _ _ _ c.loop-i.invariant.0 _ c.next_line.ensures _ c.in-Some.is _ c.text-t.ensures _ c.is_ipbcp.ensures c.if-is_ipbcp.true c.if-p-lt5.true
 
 pub read_typed-requires : goal.read_typed-requires
 read_typed-requires c = search (preambles, rules)

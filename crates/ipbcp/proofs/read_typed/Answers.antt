@@ -12,6 +12,3 @@ type_alone-requires c = search (typeds, rules)
 
 pub describe-requires : goal.describe-requires
 describe-requires c = search (typeds, rules)
-
-pub type_alone-requires-2 : goal.type_alone-requires-2
-type_alone-requires-2 c = search (typeds, rules)
