@@ -5,15 +5,12 @@ use mathlib.Core.Path.{◌≡◌, refl, sym, ◌∙◌}
 use mathlib.Core.Bool.{Bool, true, false}
 use mathlib.Core.List.{List}
 use native.Mathlib.Omega.{arith}
+use Rattle.std.specs.Prelude.{Result, Ok, Err}
+use Rattle.octets.specs.declared.Refusal.{Refusal}
+use Rattle.octets.specs.Refusals.{refusal_number}
 use Rattle.octets.specs.declared.Span.{Span}
-use Rattle.octets.specs.declared.Put.{Put}
-use Rattle.octets.specs.declared.Put.TheVariants as put
-use Rattle.bat_match.specs.declared.Choice.{Choice}
-use Rattle.bat_match.specs.declared.Choice.TheVariants.{At, Refused}
 use Rattle.bat_match.specs.declared.MatchAnswer.{MatchAnswer}
 use Rattle.bat_match.specs.declared.AnswerForC.{AnswerForC}
-use Rattle.bat_match.specs.declared.TwoLists.{TwoLists}
-use Rattle.bat_match.specs.declared.TwoLists.TheVariants as two
 use Rattle.bat_match.specs.declared.FramedList.{FramedList}
 use Rattle.bat_match.specs.Matching.{MatchResult, refused, matched, matching}
 use Rattle.bat_match.specs.Meaning.{matching_led, choice_of, reduced_answer, reduced_leaves, Matches, numbers_for, for_c, MatchesForC}
@@ -21,31 +18,31 @@ use Rattle.bat_match.specs.Private.{codecs_at, FirstCommon, Writes, ListsAre, Tw
 use Rattle.bat_match.proofs.ListLaws.{choice_are, choice_refused}
 
 -- nothing is written if the two strings are refused
-refused_writes : (x : MatchResult) (n : ℕ) (b : List ℕ) → Refused n ≡ choice_of x → Writes x b (put.Refused n) b
+refused_writes : (x : MatchResult) (n : Refusal) (b : List ℕ) → Err n ≡ choice_of x → Writes x b (Err n) b
 unfolding choice_of reduced_answer reduced_leaves
 refused_writes (refused k) n b e = let z : n ≡ k = cc in record { answers = rw z; leaves = refl }
 refused_writes (matched m) n b e = absurd (let z : ◌≡◌ {A = ℕ} 0 1 = cc in omega arith)
 
 -- the choice c, and the writer's answer w
-both : (x : MatchResult) (b : List ℕ) (c : Choice) (w : Put) (f : List ℕ) → c ≡ choice_of x → Writes x b w f → Matches x b (record { choice = c; reduced = w }) f
+both : (x : MatchResult) (b : List ℕ) (c : Result Span Refusal) (w : Result ℕ Refusal) (f : List ℕ) → c ≡ choice_of x → Writes x b w f → Matches x b (record { choice = c; reduced = w }) f
 both x b c w f e p = record { answers = rw (e, p.answers); leaves = p.leaves }
 
 -- ---- two lists
-module _ (s t : List ℕ) (l o : FramedList) (lists : ListsAre s t l o) (c : Choice) (first : FirstCommon s l.from (codecs_at t o.from) c) (b : List ℕ) where
+module _ (s t : List ℕ) (l o : FramedList) (lists : ListsAre s t l o) (c : Result Span Refusal) (first : FirstCommon s l.from (codecs_at t o.from) c) (b : List ℕ) where
   is : c ≡ choice_of (matching s t)
   is = choice_are s t l o lists c first
 
-  pub answers_found : (p : Span) → c ≡ At p → (w : Put) (f : List ℕ) → Writes (matching s t) b w f → Matches (matching s t) b (record { choice = At p; reduced = w }) f
-  answers_found p e w f q = both (matching s t) b (At p) w f (sym e ∙ is) q
+  pub answers_found : (p : Span) → c ≡ Ok p → (w : Result ℕ Refusal) (f : List ℕ) → Writes (matching s t) b w f → Matches (matching s t) b (record { choice = Ok p; reduced = w }) f
+  answers_found p e w f q = both (matching s t) b (Ok p) w f (sym e ∙ is) q
 
-  pub answers_none : (n : ℕ) → c ≡ Refused n → Matches (matching s t) b (record { choice = Refused n; reduced = put.Refused n }) b
-  answers_none n e = both (matching s t) b (Refused n) (put.Refused n) b (sym e ∙ is) (refused_writes (matching s t) n b (sym e ∙ is))
+  pub answers_none : (n : Refusal) → c ≡ Err n → Matches (matching s t) b (record { choice = Err n; reduced = Err n }) b
+  answers_none n e = both (matching s t) b (Err n) (Err n) b (sym e ∙ is) (refused_writes (matching s t) n b (sym e ∙ is))
 
 -- two strings that are not both lists
-pub answers_refused : (s t : List ℕ) (x : TwoLists) → TwoListsAre s t x → (n : ℕ) → x ≡ two.Refused n → (b : List ℕ) → Matches (matching s t) b (record { choice = Refused n; reduced = put.Refused n }) b
+pub answers_refused : (s t : List ℕ) (x : Result (FramedList × FramedList) Refusal) → TwoListsAre s t x → (n : Refusal) → x ≡ Err n → (b : List ℕ) → Matches (matching s t) b (record { choice = Err n; reduced = Err n }) b
 answers_refused s t x p n e b =
     let is = choice_refused s t x p n e in
-    both (matching s t) b (Refused n) (put.Refused n) b is (refused_writes (matching s t) n b is)
+    both (matching s t) b (Err n) (Err n) b is (refused_writes (matching s t) n b is)
 
 -- ---- which list leads
 module _ (own offered b : List ℕ) (leads : Bool) (r : MatchAnswer) (f : List ℕ) where
@@ -58,18 +55,18 @@ module _ (own offered b : List ℕ) (leads : Bool) (r : MatchAnswer) (f : List �
   offered_first e p = rw e p
 
 -- ---- for C
-module _ (c : Choice) (w : Put) where
-  pub numbers_refused : (n : ℕ) → c ≡ Refused n → record { refusal = n; start = 0; length = 0; written = 0 } ≡ numbers_for c w
+module _ (c : Result Span Refusal) (w : Result ℕ Refusal) where
+  pub numbers_refused : (n : Refusal) (k : ℕ) → c ≡ Err n → k ≡ refusal_number n → record { refusal = k; start = 0; length = 0; written = 0 } ≡ numbers_for c w
   unfolding numbers_for
-  numbers_refused n e = rw e
+  numbers_refused n k e q = rw (e, q)
 
-  pub numbers_written : (p : Span) (n : ℕ) → c ≡ At p → w ≡ put.Octets n → record { refusal = 0; start = p.at; length = p.len; written = n } ≡ numbers_for c w
+  pub numbers_written : (p : Span) (n : ℕ) → c ≡ Ok p → w ≡ Ok n → record { refusal = 0; start = p.at; length = p.len; written = n } ≡ numbers_for c w
   unfolding numbers_for
   numbers_written p n e h = rw (e, h)
 
-  pub numbers_short : (p : Span) (n : ℕ) → c ≡ At p → w ≡ put.Refused n → record { refusal = n; start = p.at; length = p.len; written = 0 } ≡ numbers_for c w
+  pub numbers_short : (p : Span) (n : Refusal) (k : ℕ) → c ≡ Ok p → w ≡ Err n → k ≡ refusal_number n → record { refusal = k; start = p.at; length = p.len; written = 0 } ≡ numbers_for c w
   unfolding numbers_for
-  numbers_short p n e h = rw (e, h)
+  numbers_short p n k e h q = rw (e, h, q)
 
 pub ruleset numbering = (numbers_refused, numbers_written, numbers_short)
 

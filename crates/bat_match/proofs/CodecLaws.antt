@@ -3,7 +3,6 @@
 -- Assumes nothing.
 use Prim.Native.Nat.{ℕ, ◌+◌, ◌*◌, ◌≤◌, ◌<◌, ◌^◌}
 use mathlib.Core.Path.{◌≡◌, refl, sym, ap, ◌∙◌}
-use mathlib.Core.Logic.{⊎_elim}
 use mathlib.Core.List.{List, [], ◌∷◌, map}
 use mathlib.Core.Bool.{Bool, true, false, ◌&&◌, and-eq-true_iff}
 use mathlib.Core.Option.{some}
@@ -11,20 +10,17 @@ use lib.ListN.{length, drop, length-drop}
 use lib.Seq.{drop-drop}
 use mir.Syntax.{w64}
 use mir.Val.{Fits}
-use denote.Enum.Declared.{tag_of}
-use types.Run.{OneOf}
 use native.Mathlib.Omega.{arith}
+use Rattle.std.specs.Prelude.{Option, Result, Ok, Err, Some, None}
+use Rattle.bat.specs.declared.Unframed.{Unframed}
 use Rattle.octets.specs.Spans.{text_of}
 use Rattle.bat.specs.declared.Frame.{Frame}
-use Rattle.bat.specs.declared.Framed.{Framed}
-use Rattle.bat.specs.declared.Framed.TheVariants.{Whole, Unframed, Ended}
-use Rattle.bat.specs.contracts.Framed.{the_type}
 use Rattle.bat.specs.Framing.{Element, whole, front, first, unframed, ended, walk}
 use Rattle.bat.specs.Values.{InnerCodec, inner_codec, all_codecs, offence, with_single, is_single, codec_then, codecs_in}
 use Rattle.bat.specs.Writing.{codec_text}
 use Rattle.bat.specs.FramingMeaning.{header_length, element_in, front_in, HeaderLength, WholeLength}
 use Rattle.bat.proofs.WalkLaws.{front_nil, front_ended, front_whole, front_length, walk_ended, walk_unframed, walk_first, fold_ended, fold_unframed, fold_first, by_front}
-use Rattle.bat.proofs.CountLaws.{frame_ended, frame_unframed, frame_first, frame_length, frame_inside, frame_some}
+use Rattle.bat.proofs.CountLaws.{frame_ended, frame_unframed, frame_first, frame_length, frame_inside, frame_some, ok_is}
 use Rattle.bat.proofs.DecodedLaws.{codec_then_all}
 use Rattle.bat_write.proofs.CodecLaws.{codec_text_lem, single_right}
 use Rattle.bat_match.specs.declared.FramedCodec.{FramedCodec}
@@ -113,17 +109,15 @@ single_octets d e p = codec_text_lem e.contents (single_right e p)
 
 -- at a place of s, which has t from there on, there are single codecs
 module _ (s : List ℕ) (at : ℕ) (singles : all_singles (drop at s) ≡ true) (inside : at < length s) where
-  module _ (t : List ℕ) (here : t ≡ drop at s) (x : Framed) (is : front_in t x ≡ some (front t)) where
+  module _ (t : List ℕ) (here : t ≡ drop at s) (x : Result (Option Frame) Unframed) (is : front_in t x ≡ some (front t)) where
     -- so one is framed there
-    pub codec_none : (r : FramedCodec) → OneOf (1 ∷ 2 ∷ []) (tag_of the_type x) → CodecAt s at r
-    codec_none r h = go x refl h
-      where
-        go : (y : Framed) → x ≡ y → OneOf (1 ∷ 2 ∷ []) (tag_of the_type y) → CodecAt s at r
-        go (Whole f) e h = ⊎_elim (λ z. absurd (omega (arith, z))) (λ z. absurd (omega (arith, z))) h
-        go Unframed e h = absurd (let n = singles_unframed t (frame_unframed t x is e) in let p : all_singles t ≡ true = rw here singles in let z : ◌≡◌ {A = Bool} true false = cc in let y : ◌≡◌ {A = ℕ} 0 1 = cc in omega arith)
-        go Ended e h = absurd (let n : t ≡ [] = front_ended t (frame_ended t x is e) in omega (arith, ap (λ (l : List ℕ). length l) n, ap (λ (l : List ℕ). length l) here, length-drop at s))
+    pub codec_unframed : (r : FramedCodec) (u : Unframed) → x ≡ Err u → CodecAt s at r
+    codec_unframed r u e = absurd (let n = singles_unframed t (frame_unframed t x is u e) in let p : all_singles t ≡ true = rw here singles in let z : ◌≡◌ {A = Bool} true false = cc in let y : ◌≡◌ {A = ℕ} 0 1 = cc in omega arith)
 
-    module _ (f : Frame) (e : x ≡ Whole f) (w : ℕ) (l : WholeLength f w) where
+    pub codec_ended : (r : FramedCodec) → x ≡ Ok None → CodecAt s at r
+    codec_ended r e = absurd (let n : t ≡ [] = front_ended t (frame_ended t x is e) in omega (arith, ap (λ (l : List ℕ). length l) n, ap (λ (l : List ℕ). length l) here, length-drop at s))
+
+    module _ (f : Frame) (e : x ≡ Ok (Some f)) (w : ℕ) (l : WholeLength f w) where
       pub codec_fits : length s < 2 ^ 64 → Fits w64 (at + w)
       codec_fits h = omega (arith, frame_inside t x is f e w l, ap (λ (z : List ℕ). length z) here, length-drop at s)
 
@@ -151,3 +145,5 @@ module _ (s : List ℕ) (at : ℕ) (singles : all_singles (drop at s) ≡ true) 
               rest = rw z rest;
               are = rw (← here, z) (placed_first at t d u q ∙ rw (← n));
             }
+
+pub ruleset codecs = (codec_unframed, codec_ended, codec_fits, header_fits, codec_here, ok_is)

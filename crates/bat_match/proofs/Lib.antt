@@ -5,6 +5,7 @@ pub mod SearchLaws
 pub mod ReducedLaws
 pub mod SelectionLaws
 pub mod PartLaws
+pub mod NumberLaws
 pub mod ListLaws
 pub mod WriteLaws
 pub mod AnswerLaws

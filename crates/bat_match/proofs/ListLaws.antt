@@ -1,32 +1,28 @@
 -- A string by itself: the tests of the code are the steps of `alone`. What two strings are by themselves gives their match, since
 -- the numbers that refuse a string rise in the order in which they are looked for.
 -- Assumes nothing.
-use Prim.Native.Nat.{ℕ, ◌≤◌, ◌<◌, min}
+use Prim.Native.Nat.{ℕ, suc, ◌≤◌, ◌<◌}
 use mathlib.Core.Path.{◌≡◌, refl, sym, ap, ◌∙◌}
-use mathlib.Core.Logic.{⊎_elim}
 use mathlib.Core.List.{List, [], ◌∷◌, append-nil}
 use mathlib.Core.Bool.{Bool, true, false, cond, and-false, and-eq-true_iff}
 use mathlib.Core.Option.{Option, none, some, map, Option-elim}
 use lib.ListN.{length, drop}
 use lib.Seq.{drop-append_seam}
-use denote.Enum.Declared.{tag_of}
-use types.Run.{OneOf}
 use lib.Dec.{leb, eqb}
 use native.Mathlib.Omega.{arith}
 use borrow.Author.Tests.{lt-ltb, le-ltb, le-leb, lt-leb, eq-eqb, ne_eqb, eqb-true}
+use Rattle.std.specs.Prelude.{Result, Ok, Err, Some, None}
+use Rattle.octets.specs.declared.Refusal.{Refusal}
+use Rattle.octets.specs.declared.Refusal.TheVariants.{DataTooLong, Unframed, TableTooShort, NoCodecList}
+use Rattle.std.specs.Prelude as std
+use Rattle.octets.specs.Refusals.{refusal_number}
+use Rattle.bat.specs.declared.Unframed as bat
+use Rattle.bat.specs.declared.Unrecognised.{Unrecognised}
+use Rattle.octets.specs.declared.Span.{Span}
 use Rattle.octets.specs.Puts.{bounded}
 use Rattle.octets.proofs.CaseLaws.{by_lt}
-use Rattle.bat.specs.declared.Counted.{Counted}
-use Rattle.bat.specs.declared.Counted.TheVariants as counted
 use Rattle.bat.specs.declared.Frame.{Frame}
-use Rattle.bat.specs.declared.Framed.{Framed}
-use Rattle.bat.specs.declared.Framed.TheVariants.{Whole, Unframed, Ended}
-use Rattle.bat.specs.declared.Place.{Place}
-use Rattle.bat.specs.declared.Place.TheVariants.{Inner}
 use Rattle.bat.specs.declared.Value as told
-use Rattle.bat.specs.declared.Decoding as answer
-use Rattle.bat.specs.declared.Decoding.TheVariants.{Decoded, Unrecognised}
-use Rattle.bat.specs.contracts.Framed.{the_type}
 use Rattle.bat.specs.Framing.{Element, header, whole, Front, front, first, unframed, ended, elements, most_octets, Cut, cut, room_for}
 use Rattle.bat.specs.Framing as framing
 use Rattle.bat.specs.Values.{InnerCodec, Value, codecs, Decoding, decoded, unrecognised, wrong, Codecs, all_codecs, offence, on_codecs, codecs_in, codec_list_in, decoding}
@@ -36,106 +32,110 @@ use Rattle.bat.specs.ValueMeaning.{value_in, decoding_in}
 use Rattle.bat.proofs.WalkLaws.{front_within, front_length, front_ended}
 use Rattle.bat.proofs.DataLaws.{elements_ended, elements_unframed, elements_first, elements_next, taken_is}
 use Rattle.bat.proofs.DecodedLaws.{element_text_whole}
-use Rattle.bat.proofs.CountLaws.{frame_ended, frame_unframed, frame_is, frame_header}
-use Rattle.bat_match.specs.declared.Choice.{Choice}
-use Rattle.bat_match.specs.declared.Choice.TheVariants.{Refused}
+use Rattle.bat.proofs.CountLaws.{frame_ended, frame_unframed, frame_is, frame_header, ok_is}
 use Rattle.bat_match.specs.declared.FramedList.{FramedList}
-use Rattle.bat_match.specs.declared.OneList.{OneList}
-use Rattle.bat_match.specs.declared.OneList.TheVariants as one
-use Rattle.bat_match.specs.declared.TwoLists.{TwoLists}
-use Rattle.bat_match.specs.declared.TwoLists.TheVariants as two
 use Rattle.bat_match.specs.Matching.{CodecList, is_decoded, is_codec_list, codec_list_of, only_list, common, refused, both, match_of, matching}
 use Rattle.bat_match.specs.Meaning.{choice_of}
-use Rattle.bat_match.specs.Private.{all_singles, codecs_at, FirstCommon, Alone, refused_alone, list, alone, OneAtMost, list_in, ListIs, OneListIs, paired, ListsAre, TwoListsAre}
+use Rattle.bat_match.specs.Private.{all_singles, codecs_at, FirstCommon, Alone, refused_alone, list, alone, lower, OneAtMost, list_in, ListIs, OneListIs, paired, ListsAre, TwoListsAre}
 use Rattle.bat_match.proofs.CodecLaws.{decoded_codecs}
 use Rattle.bat_match.proofs.SearchLaws.{first_is}
+use Rattle.bat_match.proofs.NumberLaws.{lower_first, lower_second}
 
 -- ---- the steps of `alone`
 module _ (s : List ℕ) where
-  pub alone_long : most_octets < length s → alone s ≡ refused_alone 1
+  pub alone_long : most_octets < length s → alone s ≡ refused_alone DataTooLong
   unfolding alone bounded Option-elim
   alone_long h = rw (lt-leb (length s) most_octets h)
 
   module _ (short : length s ≤ most_octets) where
-    pub alone_framed : (o : Option (List Element)) → elements s ≡ o → alone s ≡ Option-elim o (refused_alone 2) (λ es. Option-elim (only_list es) (refused_alone 14) list)
+    pub alone_framed : (o : Option (List Element)) → elements s ≡ o → alone s ≡ Option-elim o (refused_alone Unframed) (λ es. Option-elim (only_list es) (refused_alone NoCodecList) list)
     unfolding alone bounded Option-elim
     alone_framed o e = rw (le-leb (length s) most_octets short, e)
 
   -- ---- the count of elements, of which there is to be one
-  -- the number for a string that `cut` refuses by n: more than one element is 14
-  abbrev number_for : ℕ → ℕ
-  number_for n = cond (eqb n 3) 14 n
-
   many : (es : List Element) → 1 < length es → only_list es ≡ none
   unfolding only_list
   many [] h = absurd (omega arith)
   many (e ∷ []) h = absurd (omega arith)
   many (e ∷ f ∷ es) h = refl
 
-  refused_by : (o : Option (List Element)) (n : ℕ) → elements s ≡ o → length s ≤ most_octets → Option-elim o (framing.refused 2) (room_for 1) ≡ framing.refused n → alone s ≡ refused_alone (number_for n)
+  -- what refuses a string that `cut` refuses by r: more than one element is no codec list
+  record Refuses (r : Refusal) : Type 0 where
+    more : r ≡ TableTooShort → alone s ≡ refused_alone NoCodecList
+    other : (r ≡ TableTooShort → ⊥) → alone s ≡ refused_alone r
+
+  refused_by : (o : Option (List Element)) (r : Refusal) → elements s ≡ o → length s ≤ most_octets → Option-elim o (framing.refused Unframed) (room_for 1) ≡ framing.refused r → Refuses r
   unfolding room_for Option-elim
-  refused_by none n e short p = let z : 2 ≡ n = cc in alone_framed short none e ∙ rw (← z)
-  refused_by (some es) n e short p =
+  refused_by none r e short p =
+      let z : Unframed ≡ r = cc in
+      record {
+        more = λ q. absurd (let y : Unframed ≡ TableTooShort = z ∙ q in let z : ◌≡◌ {A = ℕ} 0 1 = cc in omega arith);
+        other = λ q. alone_framed short none e ∙ rw (← z);
+      }
+  refused_by (some es) r e short p =
       by_lt 1 (length es) _
-      (λ h. let q : framing.refused 3 ≡ framing.refused n = rw (lt-ltb 1 (length es) h) at p in
-      let z : 3 ≡ n = cc in
-      alone_framed short (some es) e ∙ rw (many es h, ← z))
-      (λ h. let q : framing.taken es ≡ framing.refused n = rw (le-ltb 1 (length es) h) at p in absurd (let z : ◌≡◌ {A = ℕ} 0 1 = cc in omega arith))
+      (λ h. let q : framing.refused TableTooShort ≡ framing.refused r = rw (lt-ltb 1 (length es) h) at p in
+      let z : TableTooShort ≡ r = cc in
+      record { more = λ q. alone_framed short (some es) e ∙ rw (many es h); other = λ q. absurd (q (sym z)) })
+      (λ h. let q : framing.taken es ≡ framing.refused r = rw (le-ltb 1 (length es) h) at p in absurd (let z : ◌≡◌ {A = ℕ} 0 1 = cc in omega arith))
 
-  refused_cut : (n : ℕ) → cut 1 s ≡ framing.refused n → alone s ≡ refused_alone (number_for n)
+  refused_cut : (r : Refusal) → cut 1 s ≡ framing.refused r → Refuses r
   unfolding cut
-  refused_cut n p =
+  refused_cut r p =
       by_lt most_octets (length s) _
-      (λ h. let q : framing.refused 1 ≡ framing.refused n = rw (lt-ltb most_octets (length s) h) at p in
-      let z : 1 ≡ n = cc in
-      alone_long h ∙ rw (← z))
-      (λ h. refused_by (elements s) n refl h (rw (le-ltb most_octets (length s) h) at p))
+      (λ h. let q : framing.refused DataTooLong ≡ framing.refused r = rw (lt-ltb most_octets (length s) h) at p in
+      let z : DataTooLong ≡ r = cc in
+      record {
+        more = λ q. absurd (let y : DataTooLong ≡ TableTooShort = z ∙ q in let z : ◌≡◌ {A = ℕ} 0 1 = cc in omega arith);
+        other = λ q. alone_long h ∙ rw (← z);
+      })
+      (λ h. refused_by (elements s) r refl h (rw (le-ltb most_octets (length s) h) at p))
 
-  module _ (r : Counted) (is : r ≡ count_of (cut 1 s)) where
-    pub one_at_most : (n : ℕ) → r ≡ counted.Elements n → OneAtMost s
+  module _ (x : Result ℕ Refusal) (is : x ≡ count_of (cut 1 s)) where
+    pub one_at_most : (n : ℕ) → x ≡ Ok n → OneAtMost s
     unfolding count_of
     one_at_most n e = go (cut 1 s) refl
       where
-        go : (x : Cut) → cut 1 s ≡ x → OneAtMost s
-        go (framing.refused k) q = absurd (let z : r ≡ counted.Refused k = rw q at is in let z : ◌≡◌ {A = ℕ} 0 1 = cc in omega arith)
+        go : (y : Cut) → cut 1 s ≡ y → OneAtMost s
+        go (framing.refused k) q = absurd (let z : x ≡ Err k = rw q at is in let z : ◌≡◌ {A = ℕ} 0 1 = cc in omega arith)
         go (framing.taken es) q = let t = taken_is 1 s es q in record { short = t.short; found = es; are = t.are; single = t.room }
 
-    alone_counted : (n : ℕ) → r ≡ counted.Refused n → alone s ≡ refused_alone (number_for n)
+    refuses : (r : Refusal) → x ≡ Err r → Refuses r
     unfolding count_of
-    alone_counted n e = go (cut 1 s) refl
+    refuses r e = go (cut 1 s) refl
       where
-        go : (x : Cut) → cut 1 s ≡ x → alone s ≡ refused_alone (number_for n)
-        go (framing.refused k) q = let z : r ≡ counted.Refused k = rw q at is in let y : k ≡ n = cc in refused_cut n (rw y at q)
-        go (framing.taken es) q = absurd (let z : r ≡ counted.Elements (length es) = rw q at is in let z : ◌≡◌ {A = ℕ} 0 1 = cc in omega arith)
+        go : (y : Cut) → cut 1 s ≡ y → Refuses r
+        go (framing.refused k) q = let z : x ≡ Err k = rw q at is in let y : k ≡ r = cc in refused_cut r (rw y at q)
+        go (framing.taken es) q = absurd (let z : x ≡ Ok (length es) = rw q at is in let z : ◌≡◌ {A = ℕ} 0 1 = cc in omega arith)
 
-    pub alone_many : (n : ℕ) → r ≡ counted.Refused n → n ≡ 3 → alone s ≡ refused_alone 14
-    alone_many n e h = alone_counted n e ∙ rw (eq-eqb n 3 h)
+    pub alone_many : (r : Refusal) → x ≡ Err r → r ≡ TableTooShort → alone s ≡ refused_alone NoCodecList
+    alone_many r e h = (refuses r e).more h
 
-    pub alone_refused : (n : ℕ) → r ≡ counted.Refused n → (n ≡ 3 → ⊥) → alone s ≡ refused_alone n
-    alone_refused n e h = alone_counted n e ∙ rw (ne_eqb n 3 h)
+    pub alone_refused : (r : Refusal) → x ≡ Err r → (r ≡ TableTooShort → ⊥) → alone s ≡ refused_alone r
+    alone_refused r e h = (refuses r e).other h
 
 -- ---- two strings
--- the numbers that refuse x are at least m
+-- the number of what refuses x is at least m
 abbrev AtLeast : ℕ → Alone → Type 0
-AtLeast m (refused_alone n) = m ≤ n
+AtLeast m (refused_alone e) = m ≤ refusal_number e
 AtLeast m (list l) = Unit {0}
 
-low_first : (m : ℕ) (x : Alone) → AtLeast m x → refused m ≡ paired (refused_alone m) x
+low_first : (d : Refusal) (x : Alone) → AtLeast (refusal_number d) x → refused d ≡ paired (refused_alone d) x
 unfolding paired
-low_first m (refused_alone n) h = let z : min m n ≡ m = omega arith in rw z
-low_first m (list l) h = refl
+low_first d (refused_alone e) h = ap refused (sym (lower_first d e h))
+low_first d (list l) h = refl
 
-low_second : (n : ℕ) (x : Alone) → AtLeast n x → refused n ≡ paired x (refused_alone n)
+low_second : (e : Refusal) (x : Alone) → AtLeast (suc (refusal_number e)) x → refused e ≡ paired x (refused_alone e)
 unfolding paired
-low_second n (refused_alone m) h = let z : min m n ≡ n = omega arith in rw z
-low_second n (list l) h = refl
+low_second e (refused_alone d) h = ap refused (sym (lower_second d e h))
+low_second e (list l) h = refl
 
 -- what a string is by the list in it, and by its elements
 abbrev listed : Option CodecList → Alone
-listed o = Option-elim o (refused_alone 14) list
+listed o = Option-elim o (refused_alone NoCodecList) list
 
 abbrev framed : Option (List Element) → Alone
-framed o = Option-elim o (refused_alone 2) (λ es. listed (only_list es))
+framed o = Option-elim o (refused_alone Unframed) (λ es. listed (only_list es))
 
 listed_least : (m : ℕ) (o : Option CodecList) → m ≤ 14 → AtLeast m (listed o)
 unfolding Option-elim
@@ -147,55 +147,55 @@ unfolding Option-elim
 framed_least m none h = h
 framed_least m (some es) h = listed_least m (only_list es) (omega arith)
 
-paired_listed : (o p : Option CodecList) → both 14 o p (λ l m. match_of l (common l.codecs m.codecs)) ≡ paired (listed o) (listed p)
+paired_listed : (o p : Option CodecList) → both NoCodecList o p (λ l m. match_of l (common l.codecs m.codecs)) ≡ paired (listed o) (listed p)
 unfolding both paired Option-elim
-paired_listed none p = low_first 14 (listed p) (listed_least 14 p (omega arith))
+paired_listed none p = low_first NoCodecList (listed p) (listed_least 14 p (omega arith))
 paired_listed (some l) none = refl
 paired_listed (some l) (some m) = refl
 
 paired_framed : (o p : Option (List Element))
-    → both 2 o p (λ es fs. both 14 (only_list es) (only_list fs) (λ l m. match_of l (common l.codecs m.codecs))) ≡ paired (framed o) (framed p)
+    → both Unframed o p (λ es fs. both NoCodecList (only_list es) (only_list fs) (λ l m. match_of l (common l.codecs m.codecs))) ≡ paired (framed o) (framed p)
 unfolding both Option-elim
-paired_framed none p = low_first 2 (framed p) (framed_least 2 p (omega arith))
-paired_framed (some es) none = low_second 2 (listed (only_list es)) (listed_least 2 (only_list es) (omega arith))
+paired_framed none p = low_first Unframed (framed p) (framed_least 2 p (omega arith))
+paired_framed (some es) none = low_second Unframed (listed (only_list es)) (listed_least 3 (only_list es) (omega arith))
 paired_framed (some es) (some fs) = paired_listed (only_list es) (only_list fs)
 
 pub paired_is : (s t : List ℕ) → matching s t ≡ paired (alone s) (alone t)
 unfolding matching both alone bounded Option-elim
 paired_is s t = go (leb (length s) most_octets) (leb (length t) most_octets)
   where
-    go : (a b : Bool) → both 1 (cond a (some s) none) (cond b (some t) none)
-        (λ s t. both 2 (elements s) (elements t) (λ es fs. both 14 (only_list es) (only_list fs) (λ l m. match_of l (common l.codecs m.codecs))))
-        ≡ paired (Option-elim (cond a (some s) none) (refused_alone 1) (λ s. framed (elements s))) (Option-elim (cond b (some t) none) (refused_alone 1) (λ t. framed (elements t)))
+    go : (a b : Bool) → both DataTooLong (cond a (some s) none) (cond b (some t) none)
+        (λ s t. both Unframed (elements s) (elements t) (λ es fs. both NoCodecList (only_list es) (only_list fs) (λ l m. match_of l (common l.codecs m.codecs))))
+        ≡ paired (Option-elim (cond a (some s) none) (refused_alone DataTooLong) (λ s. framed (elements s))) (Option-elim (cond b (some t) none) (refused_alone DataTooLong) (λ t. framed (elements t)))
     go true true = paired_framed (elements s) (elements t)
-    go true false = low_second 1 (framed (elements s)) (framed_least 1 (elements s) (omega arith))
-    go false true = low_first 1 (framed (elements t)) (framed_least 1 (elements t) (omega arith))
-    go false false = low_first 1 (refused_alone 1) (omega arith)
+    go true false = low_second DataTooLong (framed (elements s)) (framed_least 2 (elements s) (omega arith))
+    go false true = low_first DataTooLong (framed (elements t)) (framed_least 1 (elements t) (omega arith))
+    go false false = low_first DataTooLong (refused_alone DataTooLong) (omega arith)
 
 -- the cases of the code, which judges each string by itself
-module _ (s : List ℕ) (a : OneList) (p : OneListIs s a) where
-  one_is : (l : FramedList) → a ≡ one.Is l → ListIs s l
+module _ (s : List ℕ) (a : Result FramedList Refusal) (p : OneListIs s a) where
+  one_is : (l : FramedList) → a ≡ Ok l → ListIs s l
   unfolding OneListIs
   one_is l e = rw e at p
 
-  one_refused : (n : ℕ) → a ≡ one.Refused n → alone s ≡ refused_alone n
+  one_refused : (n : Refusal) → a ≡ Err n → alone s ≡ refused_alone n
   unfolding OneListIs
   one_refused n e = rw e at p
 
-module _ (s t : List ℕ) (a b : OneList) (p : OneListIs s a) (q : OneListIs t b) where
-  pub two_are : (l o : FramedList) → a ≡ one.Is l → b ≡ one.Is o → TwoListsAre s t (two.Are l o)
+module _ (s t : List ℕ) (a b : Result FramedList Refusal) (p : OneListIs s a) (q : OneListIs t b) where
+  pub two_are : (l o : FramedList) → a ≡ Ok l → b ≡ Ok o → TwoListsAre s t (Ok (l, o))
   unfolding TwoListsAre
   two_are l o e f = record { first = one_is s a p l e; second = one_is t b q o f }
 
-  pub second_refused : (l : FramedList) (n : ℕ) → a ≡ one.Is l → b ≡ one.Refused n → TwoListsAre s t (two.Refused n)
+  pub second_refused : (l : FramedList) (n : Refusal) → a ≡ Ok l → b ≡ Err n → TwoListsAre s t (Err n)
   unfolding TwoListsAre paired
   second_refused l n e f = paired_is s t ∙ rw ((one_is s a p l e).is, one_refused t b q n f)
 
-  pub first_refused : (m : ℕ) (o : FramedList) → a ≡ one.Refused m → b ≡ one.Is o → TwoListsAre s t (two.Refused m)
+  pub first_refused : (m : Refusal) (o : FramedList) → a ≡ Err m → b ≡ Ok o → TwoListsAre s t (Err m)
   unfolding TwoListsAre paired
   first_refused m o e f = paired_is s t ∙ rw (one_refused s a p m e, (one_is t b q o f).is)
 
-  pub two_refused : (m n k : ℕ) → a ≡ one.Refused m → b ≡ one.Refused n → k ≡ min m n → TwoListsAre s t (two.Refused k)
+  pub two_refused : (m n k : Refusal) → a ≡ Err m → b ≡ Err n → k ≡ lower m n → TwoListsAre s t (Err k)
   unfolding TwoListsAre paired
   two_refused m n k e f h = paired_is s t ∙ rw (one_refused s a p m e, one_refused t b q n f, h)
 
@@ -207,28 +207,28 @@ module _ (s t : List ℕ) (l o : FramedList) (are : ListsAre s t l o) where
   unfolding paired
   match_are = paired_is s t ∙ rw (are.first.is, are.second.is)
 
-  pub choice_are : (r : Choice) → FirstCommon s l.from (codecs_at t o.from) r → r ≡ choice_of (matching s t)
+  pub choice_are : (r : Result Span Refusal) → FirstCommon s l.from (codecs_at t o.from) r → r ≡ choice_of (matching s t)
   choice_are r f = first_is s l.from (codecs_at t o.from) (list_in s l) r f ∙ sym (ap choice_of match_are)
 
-module _ (s t : List ℕ) (x : TwoLists) (p : TwoListsAre s t x) where
-  pub lists_are : (l o : FramedList) → x ≡ two.Are l o → ListsAre s t l o
+module _ (s t : List ℕ) (x : Result (FramedList × FramedList) Refusal) (p : TwoListsAre s t x) where
+  pub lists_are : (l o : FramedList) → x ≡ Ok (l, o) → ListsAre s t l o
   unfolding TwoListsAre
   lists_are l o e = rw e at p
 
-  pub first_singles : (l o : FramedList) → x ≡ two.Are l o → all_singles (drop l.from s) ≡ true
+  pub first_singles : (l o : FramedList) → x ≡ Ok (l, o) → all_singles (drop l.from s) ≡ true
   first_singles l o e = (lists_are l o e).first.singles
 
-  pub second_singles : (l o : FramedList) → x ≡ two.Are l o → all_singles (drop o.from t) ≡ true
+  pub second_singles : (l o : FramedList) → x ≡ Ok (l, o) → all_singles (drop o.from t) ≡ true
   second_singles l o e = (lists_are l o e).second.singles
 
-  pub lists_refused : (n : ℕ) → x ≡ two.Refused n → matching s t ≡ refused n
+  pub lists_refused : (n : Refusal) → x ≡ Err n → matching s t ≡ refused n
   unfolding TwoListsAre
   lists_refused n e = rw e at p
 
-  pub choice_first : (l o : FramedList) → x ≡ two.Are l o → (r : Choice) → FirstCommon s l.from (codecs_at t o.from) r → r ≡ choice_of (matching s t)
+  pub choice_first : (l o : FramedList) → x ≡ Ok (l, o) → (r : Result Span Refusal) → FirstCommon s l.from (codecs_at t o.from) r → r ≡ choice_of (matching s t)
   choice_first l o e r p = choice_are s t l o (lists_are l o e) r p
 
-  pub choice_refused : (n : ℕ) → x ≡ two.Refused n → Refused n ≡ choice_of (matching s t)
+  pub choice_refused : (n : Refusal) → x ≡ Err n → Err n ≡ choice_of (matching s t)
   unfolding choice_of
   choice_refused n e = rw (lists_refused n e)
 
@@ -250,11 +250,11 @@ list_decoded : (c : List ℕ) (w : Value) → decoding 4 c ≡ decoded w → (cs
 unfolding decoding codec_list_in on_codecs
 list_decoded c w p = go (eqb (length c) 0) (codecs_in c) refl p
   where
-    go : (b : Bool) (o : Codecs) → codecs_in c ≡ o → cond b wrong (on_codecs o (λ cs. decoded (codecs cs)) (λ d. unrecognised (Inner d))) ≡ decoded w
+    go : (b : Bool) (o : Codecs) → codecs_in c ≡ o → cond b wrong (on_codecs o (λ cs. decoded (codecs cs)) (λ d. unrecognised (Some d))) ≡ decoded w
         → (cs : List InnerCodec) × (codecs_in c ≡ all_codecs cs) × (w ≡ codecs cs)
     go true o e p = absurd (let z : ◌≡◌ {A = ℕ} 0 1 = cc in omega arith)
     go false (all_codecs cs) e p = (cs, e, let z : decoded (codecs cs) ≡ decoded w = p in cc)
-    go false (offence d) e p = absurd (let z : unrecognised (Inner d) ≡ decoded w = p in let z : ◌≡◌ {A = ℕ} 0 1 = cc in omega arith)
+    go false (offence d) e p = absurd (let z : unrecognised (Some d) ≡ decoded w = p in let z : ◌≡◌ {A = ℕ} 0 1 = cc in omega arith)
 
 -- e is the one element of s
 module _ (s : List ℕ) (e : Element) (are : elements s ≡ some (e ∷ [])) where
@@ -286,21 +286,19 @@ module _ (s : List ℕ) (e : Element) (are : elements s ≡ some (e ∷ [])) whe
     only_singles = let (cs, are, reads) = only_codecs in (decoded_codecs e.contents 0 cs are).singles
 
 module _ (s : List ℕ) (few : OneAtMost s) where
-  alone_only : (es : List Element) → elements s ≡ some es → alone s ≡ Option-elim (only_list es) (refused_alone 14) list
+  alone_only : (es : List Element) → elements s ≡ some es → alone s ≡ Option-elim (only_list es) (refused_alone NoCodecList) list
   unfolding Option-elim
   alone_only es e = alone_framed s few.short (some es) e
 
-  module _ (x : Framed) (is : front_in s x ≡ some (front s)) where
-    pub only_none : OneOf (1 ∷ 2 ∷ []) (tag_of the_type x) → alone s ≡ refused_alone 14
+  module _ (x : Result (std.Option Frame) bat.Unframed) (is : front_in s x ≡ some (front s)) where
+    pub only_ended : x ≡ Ok None → alone s ≡ refused_alone NoCodecList
     unfolding only_list Option-elim
-    only_none h = go x refl h
-      where
-        go : (y : Framed) → x ≡ y → OneOf (1 ∷ 2 ∷ []) (tag_of the_type y) → alone s ≡ refused_alone 14
-        go (Whole f) e h = ⊎_elim (λ z. absurd (omega (arith, z))) (λ z. absurd (omega (arith, z))) h
-        go Unframed e h = absurd (let n = elements_unframed s (frame_unframed s x is e) in let a = few.are in let z : ◌≡◌ {A = ℕ} 0 1 = cc in omega arith)
-        go Ended e h = alone_only [] (elements_ended s (frame_ended s x is e))
+    only_ended e = alone_only [] (elements_ended s (frame_ended s x is e))
 
-    module _ (f : Frame) (e : x ≡ Whole f) where
+    pub only_unframed : (u : bat.Unframed) → x ≡ Err u → alone s ≡ refused_alone NoCodecList
+    only_unframed u e = absurd (let n = elements_unframed s (frame_unframed s x is u e) in let a = few.are in let z : ◌≡◌ {A = ℕ} 0 1 = cc in omega arith)
+
+    module _ (f : Frame) (e : x ≡ Ok (Some f)) where
       fronts : front s ≡ first (element_in s f) (drop (whole_length f) s)
       fronts = frame_is s x is f e
 
@@ -318,16 +316,16 @@ module _ (s : List ℕ) (few : OneAtMost s) where
           (elements_first s (element_in s f) (drop (whole_length f) s) fronts ∙ rw r, front_none (front (drop (whole_length f) s)) (drop (whole_length f) s) refl r)
 
       -- what the string is, by whether its element is a decoded codec list
-      alone_if : (b : Bool) → is_codec_list (element_in s f) ≡ b → alone s ≡ cond b (list (codec_list_of (element_in s f))) (refused_alone 14)
+      alone_if : (b : Bool) → is_codec_list (element_in s f) ≡ b → alone s ≡ cond b (list (codec_list_of (element_in s f))) (refused_alone NoCodecList)
       unfolding only_list Option-elim
       alone_if true q = alone_only (element_in s f ∷ []) only_element.0 ∙ rw q
       alone_if false q = alone_only (element_in s f ∷ []) only_element.0 ∙ rw q
 
-      pub only_other : (f.identifier ≡ 4 → ⊥) → alone s ≡ refused_alone 14
+      pub only_other : (f.identifier ≡ 4 → ⊥) → alone s ≡ refused_alone NoCodecList
       unfolding is_codec_list element_in
       only_other h = alone_if false (rw (ne_eqb f.identifier 4 h))
 
-      module _ (four : f.identifier ≡ 4) (c : List ℕ) (there : c ≡ (element_in s f).contents) (r : answer.Decoding) (read : decoding_in c r ≡ some (decoding 4 c)) where
+      module _ (four : f.identifier ≡ 4) (c : List ℕ) (there : c ≡ (element_in s f).contents) (r : Result told.Value Unrecognised) (read : decoding_in c r ≡ some (decoding 4 c)) where
         same_compatibility : (element_in s f).compatibility ≡ f.compatibility
         unfolding element_in
         same_compatibility = refl
@@ -340,14 +338,14 @@ module _ (s : List ℕ) (few : OneAtMost s) where
         unfolding element_in
         reading = rw (four, there)
 
-        pub only_unrecognised : (p : Place) → r ≡ Unrecognised p → alone s ≡ refused_alone 14
+        pub only_unrecognised : (p : Unrecognised) → r ≡ Err p → alone s ≡ refused_alone NoCodecList
         unfolding decoding_in is_codec_list is_decoded
         only_unrecognised p q =
-            let z : some (unrecognised p) ≡ some (decoding 4 c) = rw q at read in
-            let y : decoding (element_in s f).identifier (element_in s f).contents ≡ unrecognised p = cc reading in
+            let z : some (unrecognised p.inner) ≡ some (decoding 4 c) = rw q at read in
+            let y : decoding (element_in s f).identifier (element_in s f).contents ≡ unrecognised p.inner = cc reading in
             alone_if false (rw y (and-false (eqb (element_in s f).identifier 4)))
 
-        pub only_list_lem : (v : told.Value) → r ≡ Decoded v → (h : ℕ) → HeaderLength f h → ListIs s (record { compatibility = f.compatibility; from = h })
+        pub only_list_lem : (v : told.Value) → r ≡ Ok v → (h : ℕ) → HeaderLength f h → ListIs s (record { compatibility = f.compatibility; from = h })
         unfolding decoding_in is_codec_list is_decoded
         only_list_lem v q h m =
             let d = element_in s f in
@@ -367,3 +365,5 @@ module _ (s : List ℕ) (few : OneAtMost s) where
             value_of : (o : Option Value) → map decoded o ≡ some (decoding 4 c) → (w : Value) × (decoding 4 c ≡ decoded w)
             value_of none p = absurd (let z : ◌≡◌ {A = ℕ} 0 1 = cc in omega arith)
             value_of (some w) p = (w, cc)
+
+pub ruleset onlies = (only_ended, only_unframed, only_other, only_unrecognised, only_list_lem, ok_is)

@@ -8,9 +8,9 @@ use lib.ListN.{length, take, drop}
 use native.Mathlib.Omega.{arith}
 use borrow.Author.Tests.{le-leb, lt-leb}
 use denote.Ref.{Bor}
+use Rattle.std.specs.Prelude.{Result, Ok, Err}
+use Rattle.octets.specs.declared.Refusal.{Refusal}
 use Rattle.octets.specs.declared.Span.{Span}
-use Rattle.bat_match.specs.declared.Choice.{Choice}
-use Rattle.bat_match.specs.declared.Choice.TheVariants.{At, Refused}
 use Rattle.bat_match.specs.Matching.{matching}
 use Rattle.bat_match.specs.Meaning.{choice_of, leader, PartOf, PartAt, PartBy, Chosen}
 
@@ -28,17 +28,17 @@ module _ (s r : Bor (List ℕ)) where
     unfolding PartAt
     part_here h p = rw (le-leb (at + n) (length s.now) h) p
 
-  module _ (c : Choice) where
-    pub part_chosen : {p : Span} → c ≡ At p → PartAt s p.at p.len r → PartBy s c r
+  module _ (c : Result Span Refusal) where
+    pub part_chosen : {p : Span} → c ≡ Ok p → PartAt s p.at p.len r → PartBy s c r
     unfolding PartBy
     part_chosen e q = rw e q
 
-    pub part_refused : {n : ℕ} → c ≡ Refused n → PartAt s 0 0 r → PartBy s c r
+    pub part_refused : {e : Refusal} → c ≡ Err e → PartAt s 0 0 r → PartBy s c r
     unfolding PartBy PartAt
     part_refused e q = rw e (rw (le-leb 0 (length s.now) zero-le) at q)
 
 -- ---- which list leads
-module _ (own offered r : Bor (List ℕ)) (b : Bool) (c : Choice) where
+module _ (own offered r : Bor (List ℕ)) (b : Bool) (c : Result Span Refusal) where
   pub own_leads : b ≡ true → c ≡ choice_of (matching own.now offered.now) → PartBy own c r → Chosen (leader b own offered) (leader b offered own) r
   unfolding Chosen
   own_leads e q p = rw e (rw q at p)

@@ -1,21 +1,24 @@
 -- What can be quoted of a match: E1's sentences on the chosen codec, on the reduced list and on number 15. They follow from the
 -- codecs that are in both lists.
 -- Assumes nothing.
-use Prim.Native.Nat.{ℕ, ◌+◌, ◌≤◌, min}
+use Prim.Native.Nat.{ℕ, ◌+◌, ◌≤◌}
 use mathlib.Core.Path.{◌≡◌, refl, sym, ap, ◌∙◌}
 use mathlib.Core.Logic.{⊎_elim}
 use mathlib.Core.Bool.{Bool, true, false, cond, and_comm, and-eq-true_iff, or-true}
 use mathlib.Core.List.{List, [], ◌∷◌, ◌++◌, Memᴰ}
 use mathlib.Core.Option.{Option, none, some, Option-elim}
+use lib.Dec.{ltb}
 use lib.ListN.{length, take, drop, length-drop}
 use lib.Seq.{drop-drop, take-append_seam, drop-append_seam}
 use native.Mathlib.Omega.{arith}
-use borrow.Author.Tests.{le-leb, lt-ltb, le-ltb}
+use borrow.Author.Tests.{le-leb}
 use denote.Ref.{Bor}
-use Rattle.octets.specs.declared.Put.{Put}
-use Rattle.octets.specs.declared.Put.TheVariants as put
+use Rattle.std.specs.Prelude.{Result, Ok, Err}
+use Rattle.octets.specs.declared.Refusal.{Refusal}
+use Rattle.octets.specs.declared.Refusal.TheVariants.{DataTooLong, Unframed, NoCodecList, NoCommonCodec}
+use Rattle.octets.specs.Refusals.{refusal_number}
+use Rattle.octets.specs.declared.Span.{Span}
 use Rattle.octets.specs.Words.{same}
-use Rattle.octets.specs.Puts.{put_answer}
 use Rattle.octets.proofs.CaseLaws.{by_lt, by_bool}
 use Rattle.octets.proofs.WordLaws.{same_self, by_same}
 use Rattle.bat.specs.Framing.{Element, header, whole, front, first, elements, most_octets}
@@ -24,16 +27,16 @@ use Rattle.bat.specs.Writing.{codecs_text, identifier_of, contents_text, inner_c
 use Rattle.bat.proofs.WalkLaws.{front_nil, front_within, front_length, front_whole, by_front}
 use Rattle.bat.proofs.RoundTrip.{read_written}
 use Rattle.bat_write.proofs.Back.{element_back}
-use Rattle.bat_match.specs.declared.Choice.{Choice}
 use Rattle.bat_match.specs.declared.MatchAnswer.{MatchAnswer}
 use Rattle.bat_match.specs.declared.AnswerForC.{AnswerForC}
 use Rattle.bat_match.specs.Matching.{PlacedCodec, placed_codec, placed_codecs, CodecList, is_codec_list, codec_list_of, only_list, codec_octets, has_octets, has_codec, common, without, first_of_each, first_of, Match, reduced_text, MatchResult, refused, matched, match_of, matching}
 use Rattle.bat_match.specs.Meaning.{choice_of, PartOf, PartAt, PartBy, Chosen, reduced_answer, reduced_leaves, Matches, numbers_for, MatchesForC}
 use Rattle.bat_match.specs.Promises.{IsList, NoneIn, FirstInBoth, NoRepeat, ElementAt, MatchIs, Swapped, ReducedBack}
-use Rattle.bat_match.specs.Private.{all_singles, Alone, refused_alone, list, alone, paired}
+use Rattle.bat_match.specs.Private.{all_singles, Alone, refused_alone, list, alone, lower, paired}
 use Rattle.bat_match.proofs.CodecLaws.{placed_ended, placed_unframed, placed_first, singles_first, decoded_codecs, singles_codecs}
 use Rattle.bat_match.proofs.ReducedLaws.{reduced_codecs, has_append, has_common, has_reduced, distinct_firsts, order_reduced}
 use Rattle.bat_match.proofs.ListLaws.{alone_long, alone_framed, paired_is, only_contents, only_room, only_codecs, only_singles}
+use Rattle.bat_match.proofs.NumberLaws.{number_some, lower_swap}
 use Rattle.bat_match.proofs.WriteLaws.{inner, reduced_range, reduced_shrinks}
 
 -- ---- a string that is a list
@@ -44,15 +47,15 @@ is_list s l p =
     (λ h. absurd (let n = alone_long s h in let z : ◌≡◌ {A = ℕ} 0 1 = cc in omega arith))
     (λ h. go h (elements s) refl (sym (alone_framed s h (elements s) refl) ∙ p))
   where
-    one : length s ≤ most_octets → (e : Element) → elements s ≡ some (e ∷ []) → (b : Bool) → is_codec_list e ≡ b → Option-elim (cond b (some (codec_list_of e)) none) (refused_alone 14) list ≡ list l → IsList s l
+    one : length s ≤ most_octets → (e : Element) → elements s ≡ some (e ∷ []) → (b : Bool) → is_codec_list e ≡ b → Option-elim (cond b (some (codec_list_of e)) none) (refused_alone NoCodecList) list ≡ list l → IsList s l
     one h e q true is p = record { short = h; element = e; only = q; decoded = is; gives = let z : list (codec_list_of e) ≡ list l = p in cc }
-    one h e q false is p = absurd (let z : refused_alone 14 ≡ list l = p in let z : ◌≡◌ {A = ℕ} 0 1 = cc in omega arith)
+    one h e q false is p = absurd (let z : refused_alone NoCodecList ≡ list l = p in let z : ◌≡◌ {A = ℕ} 0 1 = cc in omega arith)
 
-    go : length s ≤ most_octets → (o : Option (List Element)) → elements s ≡ o → Option-elim o (refused_alone 2) (λ es. Option-elim (only_list es) (refused_alone 14) list) ≡ list l → IsList s l
-    go h none q p = absurd (let z : refused_alone 2 ≡ list l = p in let z : ◌≡◌ {A = ℕ} 0 1 = cc in omega arith)
-    go h (some []) q p = absurd (let z : refused_alone 14 ≡ list l = p in let z : ◌≡◌ {A = ℕ} 0 1 = cc in omega arith)
+    go : length s ≤ most_octets → (o : Option (List Element)) → elements s ≡ o → Option-elim o (refused_alone Unframed) (λ es. Option-elim (only_list es) (refused_alone NoCodecList) list) ≡ list l → IsList s l
+    go h none q p = absurd (let z : refused_alone Unframed ≡ list l = p in let z : ◌≡◌ {A = ℕ} 0 1 = cc in omega arith)
+    go h (some []) q p = absurd (let z : refused_alone NoCodecList ≡ list l = p in let z : ◌≡◌ {A = ℕ} 0 1 = cc in omega arith)
     go h (some (e ∷ [])) q p = one h e q (is_codec_list e) refl p
-    go h (some (e ∷ f ∷ es)) q p = absurd (let z : refused_alone 14 ≡ list l = p in let z : ◌≡◌ {A = ℕ} 0 1 = cc in omega arith)
+    go h (some (e ∷ f ∷ es)) q p = absurd (let z : refused_alone NoCodecList ≡ list l = p in let z : ◌≡◌ {A = ℕ} 0 1 = cc in omega arith)
 
 list_alone : (s : List ℕ) (l : CodecList) → IsList s l → alone s ≡ list l
 unfolding only_list Option-elim
@@ -205,30 +208,26 @@ record Lists (s t : List ℕ) (x : MatchResult) : Type 0 where
   follows : IsList t other
   gives : match_of leading (common leading.codecs other.codecs) ≡ x
 
--- the numbers that refuse a string by itself are 1 to 14
-record Numbered (n : ℕ) : Type 0 where
-  some_number : 1 ≤ n
-  low : n ≤ 14
-
-numbered : (s : List ℕ) (n : ℕ) → alone s ≡ refused_alone n → Numbered n
+-- what refuses a string by itself has a number up to 14
+numbered : (s : List ℕ) (e : Refusal) → alone s ≡ refused_alone e → refusal_number e ≤ 14
 unfolding Option-elim only_list
-numbered s n p =
+numbered s e p =
     by_lt most_octets (length s) _
-    (λ h. let q = alone_long s h in let z : 1 ≡ n = cc in record { some_number = omega arith; low = omega arith })
+    (λ h. let q = alone_long s h in let z : DataTooLong ≡ e = cc in rw (← z) (omega arith))
     (λ h. go (elements s) (sym (alone_framed s h (elements s) refl) ∙ p))
   where
-    last : (o : Option CodecList) → Option-elim o (refused_alone 14) list ≡ refused_alone n → Numbered n
-    last none p = let z : 14 ≡ n = cc in record { some_number = omega arith; low = omega arith }
+    last : (o : Option CodecList) → Option-elim o (refused_alone NoCodecList) list ≡ refused_alone e → refusal_number e ≤ 14
+    last none p = let z : NoCodecList ≡ e = cc in rw (← z) (omega arith)
     last (some l) p = absurd (let z : ◌≡◌ {A = ℕ} 0 1 = cc in omega arith)
 
-    go : (o : Option (List Element)) → Option-elim o (refused_alone 2) (λ es. Option-elim (only_list es) (refused_alone 14) list) ≡ refused_alone n → Numbered n
-    go none p = let z : 2 ≡ n = cc in record { some_number = omega arith; low = omega arith }
+    go : (o : Option (List Element)) → Option-elim o (refused_alone Unframed) (λ es. Option-elim (only_list es) (refused_alone NoCodecList) list) ≡ refused_alone e → refusal_number e ≤ 14
+    go none p = let z : Unframed ≡ e = cc in rw (← z) (omega arith)
     go (some es) p = last (only_list es) p
 
-both_numbered : {m n : ℕ} → Numbered m → Numbered n → Numbered (min m n)
-both_numbered a b = record { some_number = omega arith; low = omega arith }
+lower_numbered : (d e : Refusal) → refusal_number d ≤ 14 → refusal_number e ≤ 14 → refusal_number (lower d e) ≤ 14
+lower_numbered d e h k = by_bool (ltb (refusal_number e) (refusal_number d)) _ (λ b. rw b k) (λ b. rw b h)
 
-lists_of : (s t : List ℕ) (x : MatchResult) → matching s t ≡ x → ((n : ℕ) → Numbered n → refused n ≡ x → ⊥) → Lists s t x
+lists_of : (s t : List ℕ) (x : MatchResult) → matching s t ≡ x → ((e : Refusal) → refusal_number e ≤ 14 → refused e ≡ x → ⊥) → Lists s t x
 unfolding paired
 lists_of s t x p high = go (alone s) (alone t) refl refl (sym (paired_is s t) ∙ p)
   where
@@ -236,7 +235,7 @@ lists_of s t x p high = go (alone s) (alone t) refl refl (sym (paired_is s t) �
     go (list l) (list o) q r e = record { leading = l; other = o; leads = is_list s l q; follows = is_list t o r; gives = e }
     go (list l) (refused_alone n) q r e = absurd (high n (numbered t n r) e)
     go (refused_alone m) (list o) q r e = absurd (high m (numbered s m q) e)
-    go (refused_alone m) (refused_alone n) q r e = absurd (high (min m n) (both_numbered (numbered s m q) (numbered t n r)) e)
+    go (refused_alone m) (refused_alone n) q r e = absurd (high (lower m n) (lower_numbered m n (numbered s m q) (numbered t n r)) e)
 
 module _ (s t : List ℕ) (m : Match) (l o : CodecList) (i : IsList s l) (follows : IsList t o) where
   match_of_lem : (c : PlacedCodec) (cs : List PlacedCodec) → common l.codecs o.codecs ≡ c ∷ cs → match_of l (c ∷ cs) ≡ matched m → MatchIs s t m
@@ -292,26 +291,26 @@ module _ (s t : List ℕ) where
       go x (common x.leading.codecs x.other.codecs) refl
     where
       go : (x : Lists s t (matched m)) (cs : List PlacedCodec) → common x.leading.codecs x.other.codecs ≡ cs → MatchIs s t m
-      go x [] q = absurd (let g = x.gives in let z : refused 15 ≡ matched m = rw q at g in let z : ◌≡◌ {A = ℕ} 0 1 = cc in omega arith)
+      go x [] q = absurd (let g = x.gives in let z : refused NoCommonCodec ≡ matched m = rw q at g in let z : ◌≡◌ {A = ℕ} 0 1 = cc in omega arith)
       go x (c ∷ cs) q = let g = x.gives in match_of_lem s t m x.leading x.other x.leads x.follows c cs q (rw q at g)
 
   -- number 15 refuses exactly two lists that have no codec in common
-  pub none_in_both : matching s t ≡ refused 15 → (l : CodecList) × (o : CodecList) × IsList s l × IsList t o × NoneIn o.codecs l.codecs
+  pub none_in_both : matching s t ≡ refused NoCommonCodec → (l : CodecList) × (o : CodecList) × IsList s l × IsList t o × NoneIn o.codecs l.codecs
   unfolding match_of first_of Option-elim
   none_in_both p =
-      let x = lists_of s t (refused 15) p (λ n h e. let z : n ≡ 15 = cc in omega (arith, h.low)) in
+      let x = lists_of s t (refused NoCommonCodec) p (λ n h e. let z : NoCommonCodec ≡ n = cc in absurd (let k : 15 ≤ 14 = rw (← z) at h in omega arith)) in
       (x.leading, x.other, x.leads, x.follows, none_common x.leading.codecs x.other.codecs (go x.leading (common x.leading.codecs x.other.codecs) x.gives))
     where
-      go : (l : CodecList) (cs : List PlacedCodec) → match_of l cs ≡ refused 15 → cs ≡ []
+      go : (l : CodecList) (cs : List PlacedCodec) → match_of l cs ≡ refused NoCommonCodec → cs ≡ []
       go l [] e = refl
       go l (c ∷ cs) e = absurd (let z : ◌≡◌ {A = ℕ} 0 1 = cc in omega arith)
 
-  pub refused_15 : (l o : CodecList) → IsList s l → IsList t o → NoneIn o.codecs l.codecs → matching s t ≡ refused 15
+  pub refused_15 : (l o : CodecList) → IsList s l → IsList t o → NoneIn o.codecs l.codecs → matching s t ≡ refused NoCommonCodec
   unfolding paired match_of first_of Option-elim
   refused_15 l o p q h = paired_is s t ∙ rw (list_alone s l p, list_alone t o q, common_none l.codecs o.codecs h)
 
   -- the same number refuses the two if the other string leads
-  pub refused_swap : (n : ℕ) → matching s t ≡ refused n → matching t s ≡ refused n
+  pub refused_swap : (n : Refusal) → matching s t ≡ refused n → matching t s ≡ refused n
   unfolding paired match_of first_of Option-elim
   refused_swap n p = go (alone s) (alone t) refl refl (sym (paired_is s t) ∙ p)
     where
@@ -323,7 +322,7 @@ module _ (s t : List ℕ) where
       go (list l) (list o) q r e = paired_is t s ∙ rw (q, r) (none_left l o (common l.codecs o.codecs) refl e)
       go (list l) (refused_alone k) q r e = paired_is t s ∙ rw (q, r) e
       go (refused_alone k) (list o) q r e = paired_is t s ∙ rw (q, r) e
-      go (refused_alone k) (refused_alone j) q r e = let z : min j k ≡ min k j = omega arith in paired_is t s ∙ rw (q, r, z) e
+      go (refused_alone k) (refused_alone j) q r e = paired_is t s ∙ rw (q, r, lower_swap j k) e
 
 -- the reduced list has the same codecs if the other string leads
 same_list : (s : List ℕ) (k l : CodecList) → IsList s k → IsList s l → k ≡ l
@@ -371,56 +370,33 @@ chosen_part_is leading other r m p q =
 
 -- what is written is read back from the buffer as the reduced list
 module _ (s t l f : List ℕ) (n : ℕ) (leaves : f ≡ reduced_leaves l (matching s t)) where
-  back_of : reduced_answer (length l) (matching s t) ≡ put.Octets n → ReducedBack s t n f
+  back_of : reduced_answer (length l) (matching s t) ≡ Ok n → ReducedBack s t n f
   unfolding reduced_answer reduced_leaves reduced_text
   back_of a = go (matching s t) refl
     where
       go : (x : MatchResult) → matching s t ≡ x → ReducedBack s t n f
-      go (refused k) q = absurd (let z : put.Refused k ≡ put.Octets n = rw q at a in let z : ◌≡◌ {A = ℕ} 0 1 = cc in omega arith)
+      go (refused k) q = absurd (let z : Err k ≡ Ok n = rw q at a in let z : ◌≡◌ {A = ℕ} 0 1 = cc in omega arith)
       go (matched m) q =
           let b = rw q at a in
           record { match = m; result = q; back = element_back m.compatibility (codecs m.reduced) l n f ((match_is s t m q).back (drop (length (reduced_text m)) l)) (record { answers = sym b; leaves = rw q at leaves }) }
 
 -- after `match_lists`
-pub reduced_back : (s t l : List ℕ) (r : MatchAnswer) (f : List ℕ) (n : ℕ) → Matches (matching s t) l r f → r.reduced ≡ put.Octets n → ReducedBack s t n f
+pub reduced_back : (s t l : List ℕ) (r : MatchAnswer) (f : List ℕ) (n : ℕ) → Matches (matching s t) l r f → r.reduced ≡ Ok n → ReducedBack s t n f
 reduced_back s t l r f n p e =
     let a : r.reduced ≡ reduced_answer (length l) (matching s t) = ap (λ (x : MatchAnswer). x.reduced) p.answers in
     back_of s t l f n p.leaves (sym a ∙ e)
 
 -- after `bat_match_codecs`: no number is 0, so 0 says that the list is written
-refusal_some : (s t : List ℕ) (n : ℕ) → matching s t ≡ refused n → 1 ≤ n
-unfolding paired match_of Option-elim
-refusal_some s t n p = go (alone s) (alone t) refl refl (sym (paired_is s t) ∙ p)
-  where
-    from_list : (l : CodecList) (o : Option PlacedCodec) (f : PlacedCodec → MatchResult) → ((c : PlacedCodec) → f c ≡ refused n → 1 ≤ n) → Option-elim o (refused 15) f ≡ refused n → 1 ≤ n
-    from_list l none f never e = let z : refused 15 ≡ refused n = e in let y : 15 ≡ n = cc in omega arith
-    from_list l (some c) f never e = never c e
-
-    go : (a b : Alone) → alone s ≡ a → alone t ≡ b → paired a b ≡ refused n → 1 ≤ n
-    go (list l) (list o) q r e = from_list l (first_of (common l.codecs o.codecs)) _ (λ c h. absurd (let z : ◌≡◌ {A = ℕ} 0 1 = cc in omega arith)) e
-    go (list l) (refused_alone k) q r e = let z : k ≡ n = cc in omega (arith, (numbered t k r).some_number)
-    go (refused_alone k) (list o) q r e = let z : k ≡ n = cc in omega (arith, (numbered s k q).some_number)
-    go (refused_alone k) (refused_alone j) q r e = let z : min k j ≡ n = cc in omega (arith, (numbered s k q).some_number, (numbered t j r).some_number)
-
-short_4 : (room : ℕ) (u : List ℕ) (k : ℕ) → put_answer room (some u) ≡ put.Refused k → k ≡ 4
-unfolding put_answer
-short_4 room u k p =
-    by_lt room (length u) _
-    (λ h. let q : put.Refused 4 ≡ put.Refused k = rw (lt-ltb room (length u) h) at p in cc)
-    (λ h. let q : put.Octets (length u) ≡ put.Refused k = rw (le-ltb room (length u) h) at p in absurd (let z : ◌≡◌ {A = ℕ} 0 1 = cc in omega arith))
-
 pub reduced_back_c : (s t l : List ℕ) (r : AnswerForC) (f : List ℕ) → MatchesForC (matching s t) l r f → r.refusal ≡ 0 → ReducedBack s t r.written f
 unfolding choice_of reduced_answer numbers_for
 reduced_back_c s t l r f p e = go (matching s t) refl (reduced_answer (length l) (matching s t)) refl
   where
-    told : (x : MatchResult) (w : Put) → matching s t ≡ x → reduced_answer (length l) (matching s t) ≡ w → r ≡ numbers_for (choice_of x) w
-    told x w q h = p.answers ∙ ap (λ (c : Choice). numbers_for c (reduced_answer (length l) (matching s t))) (ap choice_of q) ∙ ap (numbers_for (choice_of x)) h
+    told : (x : MatchResult) (w : Result ℕ Refusal) → matching s t ≡ x → reduced_answer (length l) (matching s t) ≡ w → r ≡ numbers_for (choice_of x) w
+    told x w q h = p.answers ∙ ap (λ (c : Result Span Refusal). numbers_for c (reduced_answer (length l) (matching s t))) (ap choice_of q) ∙ ap (numbers_for (choice_of x)) h
 
-    go : (x : MatchResult) → matching s t ≡ x → (w : Put) → reduced_answer (length l) (matching s t) ≡ w → ReducedBack s t r.written f
-    go (refused n) q w h = absurd (let a : r.refusal ≡ n = ap (λ (y : AnswerForC). y.refusal) (told (refused n) w q h) in omega (arith, refusal_some s t n q))
-    go (matched m) q (put.Octets k) h =
-        let a : r.written ≡ k = ap (λ (y : AnswerForC). y.written) (told (matched m) (put.Octets k) q h) in
-        back_of s t l f r.written p.leaves (h ∙ ap put.Octets (sym a))
-    go (matched m) q (put.Refused k) h =
-        absurd (let a : r.refusal ≡ k = ap (λ (y : AnswerForC). y.refusal) (told (matched m) (put.Refused k) q h) in
-        omega (arith, short_4 (length l) (reduced_text m) k (sym (ap (reduced_answer (length l)) q) ∙ h)))
+    go : (x : MatchResult) → matching s t ≡ x → (w : Result ℕ Refusal) → reduced_answer (length l) (matching s t) ≡ w → ReducedBack s t r.written f
+    go (refused n) q w h = absurd (let a : r.refusal ≡ refusal_number n = ap (λ (y : AnswerForC). y.refusal) (told (refused n) w q h) in omega (arith, number_some n))
+    go (matched m) q (Ok k) h =
+        let a : r.written ≡ k = ap (λ (y : AnswerForC). y.written) (told (matched m) (Ok k) q h) in
+        back_of s t l f r.written p.leaves (h ∙ ap Ok (sym a))
+    go (matched m) q (Err k) h = absurd (let a : r.refusal ≡ refusal_number k = ap (λ (y : AnswerForC). y.refusal) (told (matched m) (Err k) q h) in omega (arith, number_some k))

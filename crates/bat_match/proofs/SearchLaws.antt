@@ -9,14 +9,15 @@ use lib.Dec.{ltb}
 use lib.ListN.{length, drop, length-drop, drop_of_length-le}
 use native.Mathlib.Omega.{arith}
 use borrow.Author.Tests.{lt-ltb, le-ltb}
+use Rattle.std.specs.Prelude.{Result, Ok, Err}
+use Rattle.octets.specs.declared.Refusal.{Refusal}
+use Rattle.octets.specs.declared.Refusal.TheVariants.{NoCommonCodec}
 use Rattle.octets.specs.declared.Span.{Span}
 use Rattle.octets.specs.Spans.{text_of}
 use Rattle.octets.specs.Words.{same}
 use Rattle.octets.proofs.CaseLaws.{by_le}
 use Rattle.bat.specs.Framing.{whole}
 use Rattle.bat.proofs.WalkLaws.{front_nil, front_length, front_whole, by_front}
-use Rattle.bat_match.specs.declared.Choice.{Choice}
-use Rattle.bat_match.specs.declared.Choice.TheVariants.{At, Refused}
 use Rattle.bat_match.specs.declared.FramedCodec.{FramedCodec}
 use Rattle.bat_match.specs.Matching.{PlacedCodec, placed_codecs, CodecList, codec_octets, has_octets, common, first_of, match_of}
 use Rattle.bat_match.specs.Meaning.{choice_of}
@@ -86,9 +87,9 @@ module _ (s : List ℕ) (from : ℕ) (os : List PlacedCodec) (at : ℕ) (inv : c
   unfolding common
   none_common h = rw (none_left s at h)
 
-  pub common_end : length s ≤ at → FirstCommon s from os (Refused 15)
+  pub common_end : length s ≤ at → FirstCommon s from os (Err NoCommonCodec)
   unfolding FirstCommon first_of
-  common_end h = record { is = ap first_of (sym inv ∙ none_common h); number = refl }
+  common_end h = record { is = ap first_of (sym inv ∙ none_common h); refusal = refl }
 
   module _ (r : FramedCodec) (c : CodecAt s at r) (u : List ℕ) (is : u ≡ text_of s r.contents) where
     has_it : (b : Bool) → b ≡ has_octets u os → has_octets (codec_octets c.codec) os ≡ b
@@ -98,7 +99,7 @@ module _ (s : List ℕ) (from : ℕ) (os : List PlacedCodec) (at : ℕ) (inv : c
     unfolding common
     here_common p = rw (c.are, has_it true p)
 
-    pub common_here : all_singles (drop at s) ≡ true → true ≡ has_octets u os → FirstCommon s from os (At (record { at = at; len = r.end - at }))
+    pub common_here : all_singles (drop at s) ≡ true → true ≡ has_octets u os → FirstCommon s from os (Ok (record { at = at; len = r.end - at }))
     unfolding FirstCommon first_of
     common_here singles p =
         let z : c.codec.length ≡ r.end - at = omega (arith, c.ends) in
@@ -115,11 +116,11 @@ module _ (s : List ℕ) (from : ℕ) (os : List PlacedCodec) (at : ℕ) (inv : c
     common_on p = sym (rw (c.are, has_it false p)) ∙ inv
 
 -- what is found is the choice of the match
-pub first_is : (s : List ℕ) (from : ℕ) (os : List PlacedCodec) (l : CodecList) (r : Choice) → FirstCommon s from os r → r ≡ choice_of (match_of l (common (codecs_at s from) os))
+pub first_is : (s : List ℕ) (from : ℕ) (os : List PlacedCodec) (l : CodecList) (r : Result Span Refusal) → FirstCommon s from os r → r ≡ choice_of (match_of l (common (codecs_at s from) os))
 unfolding FirstCommon match_of choice_of Option-elim
-first_is s from os l (At p) f = rw f.is (ap At (sym f.place))
-first_is s from os l (Refused n) f = rw f.is (ap Refused f.number)
+first_is s from os l (Ok p) f = rw f.is (ap Ok (sym f.place))
+first_is s from os l (Err n) f = rw f.is (ap Err f.refusal)
 
-pub found_at : (s : List ℕ) (from : ℕ) (os : List PlacedCodec) (r : Choice) → FirstCommon s from os r → (p : Span) → r ≡ At p → FoundAt s from os p
+pub found_at : (s : List ℕ) (from : ℕ) (os : List PlacedCodec) (r : Result Span Refusal) → FirstCommon s from os r → (p : Span) → r ≡ Ok p → FoundAt s from os p
 unfolding FirstCommon
 found_at s from os r f p e = rw e at f

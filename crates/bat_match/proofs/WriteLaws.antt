@@ -11,8 +11,9 @@ use lib.ListN.{length, take, drop, length-drop}
 use lib.Seq.{take_all}
 use native.Mathlib.Omega.{arith}
 use borrow.Author.Tests.{le-leb}
+use Rattle.std.specs.Prelude.{Result}
+use Rattle.octets.specs.declared.Refusal.{Refusal}
 use Rattle.octets.specs.declared.Span.{Span}
-use Rattle.octets.specs.declared.Put.{Put}
 use Rattle.octets.specs.Append.{Appends}
 use Rattle.octets.specs.Puts.{Puts}
 use Rattle.octets.proofs.CaseLaws.{by_bool}
@@ -110,7 +111,7 @@ module _ (s t : List ℕ) (l o : FramedList) (lists : ListsAre s t l o) (p : Spa
 
   -- and the writer is given the contents u from there on, and those flags
   module _ (u : List ℕ) (here : u ≡ drop p.at s) (z g : List ℕ) (n : ℕ) (selection : Appends z 0 (selection_after [] (codecs_at s p.at) (codecs_at t o.from)) n g) (size : length z ≡ 682)
-      (b : List ℕ) (w : Put) (f : List ℕ) (puts : Puts (element_octets_in (meant l.compatibility) (selected_list (take (n - 0) (drop 0 g)) u)) b w f) where
+      (b : List ℕ) (w : Result ℕ Refusal) (f : List ℕ) (puts : Puts (element_octets_in (meant l.compatibility) (selected_list (take (n - 0) (drop 0 g)) u)) b w f) where
     writes_at : (cs : List PlacedCodec) → common (codecs_at s l.from) (codecs_at t o.from) ≡ cs → first_of cs ≡ some found.codec → Writes (match_of (list_in s l) cs) b w f
     unfolding first_of match_of Option-elim reduced_text reduced_answer reduced_leaves
     writes_at [] q e = absurd (let z : ◌≡◌ {A = ℕ} 0 1 = cc in omega arith)

@@ -3,6 +3,8 @@
 -- how octets are cut into elements and what a codec list is are defined in `Framing` and `Values` of `bat`.
 use Rattle.std.specs.Prelude.{ℕ, List, [], ◌∷◌, map, Bool, true, false, ◌&&◌, ◌||◌, cond, length, eqb}
 use Rattle.std.proofs.Math.Option.{Option, none, some, Option-elim}
+use Rattle.octets.specs.declared.Refusal.{Refusal}
+use Rattle.octets.specs.declared.Refusal.TheVariants.{DataTooLong, Unframed, NoCodecList, NoCommonCodec}
 use Rattle.octets.specs.Chain.{when}
 use Rattle.octets.specs.Puts.{bounded}
 use Rattle.octets.specs.Words.{same}
@@ -93,22 +95,22 @@ pub record Match : Type 0 where
 unfoldable pub reduced_text : Match → List ℕ
 reduced_text m = value_text m.compatibility (codecs m.reduced)
 
--- Two strings are refused with a number, or matched.
+-- Two strings are refused, or matched.
 pub data MatchResult : Type 0 where
-  refused : ℕ → MatchResult
+  refused : Refusal → MatchResult
   matched : Match → MatchResult
 
--- `rest` of what the two strings give; number n if either gives nothing
-unfoldable pub both : {X : Type 0} → ℕ → Option X → Option X → (X → X → MatchResult) → MatchResult
-both n none y rest = refused n
-both n (some x) none rest = refused n
-both n (some x) (some y) rest = rest x y
+-- `rest` of what the two strings give; refused by r if either gives nothing
+unfoldable pub both : {X : Type 0} → Refusal → Option X → Option X → (X → X → MatchResult) → MatchResult
+both r none y rest = refused r
+both r (some x) none rest = refused r
+both r (some x) (some y) rest = rest x y
 
 -- The match by the codecs cs of the leading list that the other list also has: the first is chosen. Number 15 if there is
 -- none.
 unfoldable pub match_of : CodecList → List PlacedCodec → MatchResult
 match_of leading cs =
-    Option-elim (first_of cs) (refused 15) (λ (c : PlacedCodec).
+    Option-elim (first_of cs) (refused NoCommonCodec) (λ (c : PlacedCodec).
     matched (record { chosen = c; compatibility = leading.compatibility; reduced = map (λ (d : PlacedCodec). d.codec) (first_of_each cs) }))
 
 -- Numbers 1, 2, 14 and 15, in this order; each is looked for in both strings before the next: 1 if one is too long, 2 if one
@@ -116,7 +118,7 @@ match_of leading cs =
 -- refuses only the writing (`reduced_answer` in `Meaning`).
 unfoldable pub matching : List ℕ → List ℕ → MatchResult
 matching leading other =
-    both 1 (bounded most_octets leading) (bounded most_octets other) (λ s t.
-    both 2 (elements s) (elements t) (λ es fs.
-    both 14 (only_list es) (only_list fs) (λ l o.
+    both DataTooLong (bounded most_octets leading) (bounded most_octets other) (λ s t.
+    both Unframed (elements s) (elements t) (λ es fs.
+    both NoCodecList (only_list es) (only_list fs) (λ l o.
     match_of l (common l.codecs o.codecs))))

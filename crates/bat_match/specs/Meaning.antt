@@ -1,13 +1,11 @@
 -- What the answers of this crate mean, by the definitions of `Matching`.
-use Rattle.std.specs.Prelude.{ℕ, ◌+◌, ◌≡◌, List, Bool, true, false, not, cond, length, take, drop, leb, eqb}
+use Rattle.std.specs.Prelude.{ℕ, ◌+◌, ◌≡◌, List, Bool, true, false, not, cond, length, take, drop, leb, eqb, Result, Ok, Err}
 use Rattle.std.proofs.Math.Option.{some}
 use Rattle.std.specs.Borrow.{Bor}
 use Rattle.octets.specs.declared.Span.{Span}
-use Rattle.octets.specs.declared.Put.{Put}
-use Rattle.octets.specs.declared.Put.TheVariants as put
+use Rattle.octets.specs.declared.Refusal.{Refusal}
+use Rattle.octets.specs.Refusals.{refusal_number}
 use Rattle.octets.specs.Puts.{put_answer, put_leaves}
-use Rattle.bat_match.specs.declared.Choice.{Choice}
-use Rattle.bat_match.specs.declared.Choice.TheVariants.{At, Refused}
 use Rattle.bat_match.specs.declared.MatchAnswer.{MatchAnswer}
 use Rattle.bat_match.specs.declared.AnswerForC.{AnswerForC}
 use Rattle.bat_match.specs.Matching.{PlacedCodec, reduced_text, MatchResult, refused, matched, matching}
@@ -27,10 +25,10 @@ matching_led b own offered = matching (leader b own offered) (leader b offered o
 abbrev pub place_of : PlacedCodec → Span
 place_of c = record { at = c.start; len = c.length }
 
--- the number that refuses the strings, or the place of the chosen codec in the leading one
-unfoldable pub choice_of : MatchResult → Choice
-choice_of (refused n) = Refused n
-choice_of (matched m) = At (place_of m.chosen)
+-- what refuses the strings, or the place of the chosen codec in the leading one
+unfoldable pub choice_of : MatchResult → Result Span Refusal
+choice_of (refused e) = Err e
+choice_of (matched m) = Ok (place_of m.chosen)
 
 -- r is the part of s that begins at `at` and has n octets: it lies there in the caller's own memory, and is not a copy
 pub record PartOf (s : Bor (List ℕ)) (at n : ℕ) (r : Bor (List ℕ)) : Type 0 where
@@ -43,9 +41,9 @@ unfoldable pub PartAt : Bor (List ℕ) → ℕ → ℕ → Bor (List ℕ) → Ty
 PartAt s at n r = PartOf s (cond (leb (at + n) (length s.now)) at 0) (cond (leb (at + n) (length s.now)) n 0) r
 
 -- r is the part of s that a choice names; for a refusal, or if s has no such part, the empty part at the front of s
-unfoldable pub PartBy : Bor (List ℕ) → Choice → Bor (List ℕ) → Type 0
-PartBy s (At p) r = PartAt s p.at p.len r
-PartBy s (Refused n) r = PartOf s 0 0 r
+unfoldable pub PartBy : Bor (List ℕ) → Result Span Refusal → Bor (List ℕ) → Type 0
+PartBy s (Ok p) r = PartAt s p.at p.len r
+PartBy s (Err e) r = PartOf s 0 0 r
 
 -- r is the chosen codec's whole element, in its place in the list that leads; the empty part at the front of that list if the two
 -- are refused
@@ -54,13 +52,13 @@ Chosen leading other r = PartBy leading (choice_of (matching leading.now other.n
 
 -- ---- the reduced list
 -- the answer of its writer, for a buffer of so many octets: number 4 comes after all others
-unfoldable pub reduced_answer : ℕ → MatchResult → Put
-reduced_answer room (refused n) = put.Refused n
+unfoldable pub reduced_answer : ℕ → MatchResult → Result ℕ Refusal
+reduced_answer room (refused e) = Err e
 reduced_answer room (matched m) = put_answer room (some (reduced_text m))
 
 -- what it leaves in the buffer l
 unfoldable pub reduced_leaves : List ℕ → MatchResult → List ℕ
-reduced_leaves l (refused n) = l
+reduced_leaves l (refused e) = l
 reduced_leaves l (matched m) = put_leaves l (some (reduced_text m))
 
 -- ---- both
@@ -76,10 +74,10 @@ pub record Matches (x : MatchResult) (l : List ℕ) (r : MatchAnswer) (f : List 
 -- ---- for C
 -- Numbers for a choice and a writer's answer. A field that does not apply is 0: the refusal if there is none; the place if the
 -- strings are refused; how many octets are written if nothing is.
-unfoldable pub numbers_for : Choice → Put → AnswerForC
-numbers_for (Refused n) w = record { refusal = n; start = 0; length = 0; written = 0 }
-numbers_for (At p) (put.Octets n) = record { refusal = 0; start = p.at; length = p.len; written = n }
-numbers_for (At p) (put.Refused n) = record { refusal = n; start = p.at; length = p.len; written = 0 }
+unfoldable pub numbers_for : Result Span Refusal → Result ℕ Refusal → AnswerForC
+numbers_for (Err e) w = record { refusal = refusal_number e; start = 0; length = 0; written = 0 }
+numbers_for (Ok p) (Ok n) = record { refusal = 0; start = p.at; length = p.len; written = n }
+numbers_for (Ok p) (Err e) = record { refusal = refusal_number e; start = p.at; length = p.len; written = 0 }
 
 abbrev pub for_c : MatchAnswer → AnswerForC
 for_c m = numbers_for m.choice m.reduced

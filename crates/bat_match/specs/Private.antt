@@ -1,19 +1,15 @@
 -- Private: used only by private functions of this crate. The codecs of a list from a place on, and a string by itself.
-use Rattle.std.specs.Prelude.{ℕ, ◌+◌, ◌≤◌, ◌<◌, min, ◌≡◌, List, [], ◌∷◌, ◌++◌, Bool, true, false, not, ◌&&◌, cond, length, drop, ltb}
+use Rattle.std.specs.Prelude.{ℕ, ◌+◌, ◌≤◌, ◌<◌, ◌≡◌, List, [], ◌∷◌, ◌++◌, Bool, true, false, not, ◌&&◌, cond, length, drop, ltb, Result, Ok, Err}
 use Rattle.std.proofs.Math.Option.{none, some, Option-elim}
 use Rattle.octets.specs.declared.Span.{Span}
-use Rattle.octets.specs.declared.Put.{Put}
+use Rattle.octets.specs.declared.Refusal.{Refusal}
+use Rattle.octets.specs.declared.Refusal.TheVariants.{DataTooLong, Unframed, NoCodecList, NoCommonCodec}
+use Rattle.octets.specs.Refusals.{refusal_number}
 use Rattle.octets.specs.Puts.{bounded}
 use Rattle.octets.specs.Spans.{text_of}
 use Rattle.bat.specs.Framing.{Element, fold, elements, most_octets}
 use Rattle.bat.specs.Values.{is_single, meant}
 use Rattle.bat.specs.Writing.{element_text, bit_text}
-use Rattle.bat_match.specs.declared.Choice.{Choice}
-use Rattle.bat_match.specs.declared.Choice.TheVariants.{At, Refused}
-use Rattle.bat_match.specs.declared.OneList.{OneList}
-use Rattle.bat_match.specs.declared.OneList.TheVariants as one
-use Rattle.bat_match.specs.declared.TwoLists.{TwoLists}
-use Rattle.bat_match.specs.declared.TwoLists.TheVariants as two
 use Rattle.bat_match.specs.declared.FramedList.{FramedList}
 use Rattle.bat_match.specs.declared.FramedCodec.{FramedCodec}
 use Rattle.bat_match.specs.Matching.{PlacedCodec, placed_codecs, CodecList, only_list, codec_octets, has_octets, has_codec, common, first_of, MatchResult, refused, match_of, matching}
@@ -54,13 +50,13 @@ pub record FoundAt (s : List ℕ) (from : ℕ) (os : List PlacedCodec) (p : Span
   pub enough : common (codecs_at s p.at) os ≡ common (codecs_at s from) os
 
 -- there is none
-pub record NoneFound (s : List ℕ) (from : ℕ) (os : List PlacedCodec) (n : ℕ) : Type 0 where
+pub record NoneFound (s : List ℕ) (from : ℕ) (os : List PlacedCodec) (e : Refusal) : Type 0 where
   pub is : first_of (common (codecs_at s from) os) ≡ none
-  pub number : n ≡ 15
+  pub refusal : e ≡ NoCommonCodec
 
-unfoldable pub FirstCommon : List ℕ → ℕ → List PlacedCodec → Choice → Type 0
-FirstCommon s from os (At p) = FoundAt s from os p
-FirstCommon s from os (Refused n) = NoneFound s from os n
+unfoldable pub FirstCommon : List ℕ → ℕ → List PlacedCodec → Result Span Refusal → Type 0
+FirstCommon s from os (Ok p) = FoundAt s from os p
+FirstCommon s from os (Err e) = NoneFound s from os e
 
 -- those of cs that start before n
 unfoldable pub starting_before : ℕ → List PlacedCodec → List PlacedCodec
@@ -78,21 +74,21 @@ selection_after before [] other = []
 selection_after before (c ∷ cs) other = flag_of (codec_octets c) before other ∷ selection_after (before ++ (c ∷ [])) cs other
 
 -- writing the reduced list into the buffer l answers r and leaves f in it
-pub record Writes (x : MatchResult) (l : List ℕ) (r : Put) (f : List ℕ) : Type 0 where
+pub record Writes (x : MatchResult) (l : List ℕ) (r : Result ℕ Refusal) (f : List ℕ) : Type 0 where
   pub answers : r ≡ reduced_answer (length l) x
   pub leaves : f ≡ reduced_leaves l x
 
 -- ---- one string
--- The list in it, or the number that refuses it by itself. Two strings are refused by the lower of their numbers.
+-- The list in it, or what refuses it by itself.
 pub data Alone : Type 0 where
-  refused_alone : ℕ → Alone
+  refused_alone : Refusal → Alone
   list : CodecList → Alone
 
 unfoldable pub alone : List ℕ → Alone
 alone s =
-    Option-elim (bounded most_octets s) (refused_alone 1) (λ (t : List ℕ).
-    Option-elim (elements t) (refused_alone 2) (λ es.
-    Option-elim (only_list es) (refused_alone 14) list))
+    Option-elim (bounded most_octets s) (refused_alone DataTooLong) (λ (t : List ℕ).
+    Option-elim (elements t) (refused_alone Unframed) (λ es.
+    Option-elim (only_list es) (refused_alone NoCodecList) list))
 
 -- it can be framed, and has at most one element
 pub record OneAtMost (s : List ℕ) : Type 0 where
@@ -113,21 +109,26 @@ pub record ListIs (s : List ℕ) (l : FramedList) : Type 0 where
   -- an element with no more contents has no more octets than s
   pub fits : (i c : ℕ) (x : List ℕ) → length x ≤ length (drop l.from s) → length (element_text i c x) ≤ length s
 
-unfoldable pub OneListIs : List ℕ → OneList → Type 0
-OneListIs s (one.Is l) = ListIs s l
-OneListIs s (one.Refused n) = alone s ≡ refused_alone n
+unfoldable pub OneListIs : List ℕ → Result FramedList Refusal → Type 0
+OneListIs s (Ok l) = ListIs s l
+OneListIs s (Err e) = alone s ≡ refused_alone e
 
 -- ---- two strings
+-- the one with the lower number
+abbrev pub lower : Refusal → Refusal → Refusal
+lower d e = cond (ltb (refusal_number e) (refusal_number d)) e d
+
+-- two strings are refused by the lower of their numbers
 unfoldable pub paired : Alone → Alone → MatchResult
 paired (list l) (list o) = match_of l (common l.codecs o.codecs)
-paired (list l) (refused_alone n) = refused n
-paired (refused_alone m) (list o) = refused m
-paired (refused_alone m) (refused_alone n) = refused (min m n)
+paired (list l) (refused_alone e) = refused e
+paired (refused_alone d) (list o) = refused d
+paired (refused_alone d) (refused_alone e) = refused (lower d e)
 
 pub record ListsAre (s t : List ℕ) (l o : FramedList) : Type 0 where
   pub first : ListIs s l
   pub second : ListIs t o
 
-unfoldable pub TwoListsAre : List ℕ → List ℕ → TwoLists → Type 0
-TwoListsAre s t (two.Are l o) = ListsAre s t l o
-TwoListsAre s t (two.Refused n) = matching s t ≡ refused n
+unfoldable pub TwoListsAre : List ℕ → List ℕ → Result (FramedList × FramedList) Refusal → Type 0
+TwoListsAre s t (Ok (l, o)) = ListsAre s t l o
+TwoListsAre s t (Err e) = matching s t ≡ refused e

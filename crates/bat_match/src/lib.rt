@@ -13,23 +13,17 @@ ghost use Rattle.bat_match.specs.Meaning.{leader, matching_led, choice_of, PartA
 
 use bat::MOST_OCTETS;
 use octets::spans::after;
-use octets::{Put, Span};
+use octets::{Refusal, Span};
 
 // The most elements that a string can have, since an element has at least three octets.
 const MOST_ELEMENTS: usize = MOST_OCTETS / 3;
 
-// The place of the chosen codec's whole element in the leading list, or the number that refuses the two strings.
-#[derive(Clone, Copy)]
-pub enum Choice {
-    At(Span),
-    Refused(u8),
-}
-
-// The chosen codec, and what the writer of the reduced list answers: how many octets it wrote, or a number.
+// The place of the chosen codec's whole element in the leading list, and how many octets of the reduced list are written; or
+// what refuses each.
 #[derive(Clone, Copy)]
 pub struct MatchAnswer {
-    pub choice: Choice,
-    pub reduced: Put,
+    pub choice: Result<Span, Refusal>,
+    pub reduced: Result<usize, Refusal>,
 }
 
 // The same for C. `refusal` is the number that refuses the two strings, or 4 if only the writing is refused. A field that
@@ -50,20 +44,6 @@ struct FramedList {
     from: usize,
 }
 
-// The list in a string, or the number that refuses it.
-#[derive(Clone, Copy)]
-enum OneList {
-    Is(FramedList),
-    Refused(u8),
-}
-
-// The lists in two strings, or the number that refuses them.
-#[derive(Clone, Copy)]
-enum TwoLists {
-    Are(FramedList, FramedList),
-    Refused(u8),
-}
-
 // A codec at a place of a list: the octets of its organisation, type and configuration, and the place where it ends.
 #[derive(Clone, Copy)]
 struct FramedCodec {
@@ -71,16 +51,13 @@ struct FramedCodec {
     end: usize,
 }
 
-// Chooses the first codec of the leading list that the other list also has. The answer is its place in `leading`, or the
-// number that refuses the two: 1, 2, 14 or 15.
-pub fn choose(leading: &[u8], other: &[u8]) -> Choice
+// Chooses the first codec of the leading list that the other list also has. The answer is the place of its whole element in
+// `leading`, or what refuses the two: number 1, 2, 14 or 15.
+pub fn choose(leading: &[u8], other: &[u8]) -> Result<Span, Refusal>
     ensures { result ≡ choice_of (matching leading.now other.now) }
 {
-    let x = lists::two_lists(leading, other);
-    match x {
-        TwoLists::Are(l, o) => search::first_common(leading, l.from, other, o.from),
-        TwoLists::Refused(n) => Choice::Refused(n),
-    }
+    let (l, o) = lists::two_lists(leading, other)?;
+    search::first_common(leading, l.from, other, o.from)
 }
 
 // The part of s that begins at a place and has len octets; the empty part at its front if it has no such part.
@@ -98,12 +75,12 @@ fn part_at(s: &[u8], at: usize, len: usize) -> &[u8]
 }
 
 // The part of s that a choice names; for a refusal, or if s has no such part, the empty part at its front.
-pub fn part_by(s: &[u8], choice: Choice) -> &[u8]
+pub fn part_by(s: &[u8], choice: Result<Span, Refusal>) -> &[u8]
     ensures { PartBy s.entry choice result }
 {
     match choice {
-        Choice::At(p) => part_at(s, p.at, p.len),
-        Choice::Refused(_) => part_at(s, 0, 0),
+        Ok(p) => part_at(s, p.at, p.len),
+        Err(_) => part_at(s, 0, 0),
     }
 }
 
@@ -126,7 +103,7 @@ fn put_reduced(
     o: FramedList,
     p: Span,
     out: &mut [u8],
-) -> Put
+) -> Result<usize, Refusal>
     requires lists_are { ListsAre leading.now other.now l o }
     requires found_at { FoundAt leading.now l.from (codecs_at other.now o.from) p }
     ensures { Writes (matching leading.now other.now) out.old result out.new }
@@ -148,18 +125,15 @@ fn match_both(
     requires { ListsAre leading.now other.now l o }
     ensures { Matches (matching leading.now other.now) out.old result out.new }
 {
-    let c = search::first_common(leading, l.from, other, o.from);
-    match c {
-        Choice::At(p) => {
-            let w = put_reduced(leading, l, other, o, p, out);
-            MatchAnswer {
-                choice: c,
-                reduced: w,
-            }
-        }
-        Choice::Refused(n) => MatchAnswer {
-            choice: c,
-            reduced: Put::Refused(n),
+    let choice = search::first_common(leading, l.from, other, o.from);
+    match choice {
+        Ok(p) => MatchAnswer {
+            choice: choice,
+            reduced: put_reduced(leading, l, other, o, p, out),
+        },
+        Err(e) => MatchAnswer {
+            choice: choice,
+            reduced: Err(e),
         },
     }
 }
@@ -168,12 +142,11 @@ fn match_both(
 fn match_strings(leading: &[u8], other: &[u8], out: &mut [u8]) -> MatchAnswer
     ensures { Matches (matching leading.now other.now) out.old result out.new }
 {
-    let x = lists::two_lists(leading, other);
-    match x {
-        TwoLists::Are(l, o) => match_both(leading, l, other, o, out),
-        TwoLists::Refused(n) => MatchAnswer {
-            choice: Choice::Refused(n),
-            reduced: Put::Refused(n),
+    match lists::two_lists(leading, other) {
+        Ok((l, o)) => match_both(leading, l, other, o, out),
+        Err(e) => MatchAnswer {
+            choice: Err(e),
+            reduced: Err(e),
         },
     }
 }
@@ -194,24 +167,22 @@ pub fn match_lists(offered: &[u8], own: &[u8], own_leads: bool, out: &mut [u8]) 
 fn for_c(m: MatchAnswer) -> AnswerForC
     ensures { result ≡ for_c m }
 {
-    let choice = m.choice;
-    let reduced = m.reduced;
-    match choice {
-        Choice::Refused(n) => AnswerForC {
-            refusal: n,
+    match m.choice {
+        Err(e) => AnswerForC {
+            refusal: e.number(),
             start: 0,
             length: 0,
             written: 0,
         },
-        Choice::At(p) => match reduced {
-            Put::Octets(n) => AnswerForC {
+        Ok(p) => match m.reduced {
+            Ok(n) => AnswerForC {
                 refusal: 0,
                 start: p.at,
                 length: p.len,
                 written: n,
             },
-            Put::Refused(n) => AnswerForC {
-                refusal: n,
+            Err(e) => AnswerForC {
+                refusal: e.number(),
                 start: p.at,
                 length: p.len,
                 written: 0,

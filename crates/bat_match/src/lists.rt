@@ -1,73 +1,66 @@
 // The codec list in a string, and the numbers that refuse a string: 1, 2 and 14.
-ghost use Rattle.std.specs.Prelude.{◌≡◌, min};
-ghost use Rattle.bat_match.specs.Private.{OneAtMost, OneListIs, TwoListsAre};
+ghost use Rattle.std.specs.Prelude.{◌≡◌};
+ghost use Rattle.bat_match.specs.Private.{OneAtMost, OneListIs, TwoListsAre, lower};
 
-use crate::{FramedList, OneList, TwoLists};
-use bat::{Counted, Decoding, Framed};
+use crate::FramedList;
+use bat::framing::{contents, first_element, header_length};
+use octets::Refusal;
 
-// The list in s, or number 14. (s has at most one element.)
-fn only_list(s: &[u8]) -> OneList
+// The list in s. (s has at most one element.)
+fn only_list(s: &[u8]) -> Result<FramedList, Refusal>
     requires { OneAtMost s.now }
     ensures { OneListIs s.now result }
 {
-    let x = bat::framing::first_element(s);
-    let Framed::Whole(f) = x else {
-        return OneList::Refused(14);
+    let Ok(Some(f)) = first_element(s) else {
+        return Err(Refusal::NoCodecList);
     };
     if f.identifier != 4 {
-        return OneList::Refused(14);
+        return Err(Refusal::NoCodecList);
     }
-    let d = bat_read::decode(4, bat::framing::contents(s, f));
-    match d {
-        Decoding::Decoded(_) => OneList::Is(FramedList {
+    match bat_read::decode(4, contents(s, f)) {
+        Ok(_) => Ok(FramedList {
             compatibility: f.compatibility,
-            from: bat::framing::header_length(f),
+            from: header_length(f),
         }),
-        Decoding::Unrecognised(_) => OneList::Refused(14),
+        Err(_) => Err(Refusal::NoCodecList),
     }
 }
 
-// The list in s, or the number that refuses s: 1, 2 or 14. More than one element, which `count` refuses by 3, is 14.
-fn one_list(s: &[u8]) -> OneList
+// The list in s, or what refuses s: number 1, 2 or 14. More than one element, which `count` refuses by 3, is 14.
+fn one_list(s: &[u8]) -> Result<FramedList, Refusal>
     ensures { OneListIs s.now result }
 {
-    let c = bat::framing::count(s, 1);
-    match c {
-        Counted::Elements(_) => only_list(s),
-        Counted::Refused(n) => {
-            if n == 3 {
-                return OneList::Refused(14);
-            }
-            OneList::Refused(n)
-        }
+    match bat::framing::count(s, 1) {
+        Ok(_) => only_list(s),
+        Err(Refusal::TableTooShort) => Err(Refusal::NoCodecList),
+        Err(e) => Err(e),
     }
 }
 
-// The smaller of two numbers.
-fn smaller(m: u8, n: u8) -> u8
-    ensures { result ≡ min m n }
+// The one with the lower number.
+fn lower(d: Refusal, e: Refusal) -> Refusal
+    ensures { result ≡ lower d e }
 {
-    if n < m {
-        return n;
+    if e.number() < d.number() {
+        return e;
     }
-    m
+    d
 }
 
-// The lists in two strings, or the number that refuses them. The numbers are looked for in rising order, so the
-// smaller one refuses.
-pub(crate) fn two_lists(leading: &[u8], other: &[u8]) -> TwoLists
+// The lists in two strings, or what refuses them. The numbers are looked for in rising order, so the lower one refuses.
+pub(crate) fn two_lists(leading: &[u8], other: &[u8]) -> Result<(FramedList, FramedList), Refusal>
     ensures { TwoListsAre leading.now other.now result }
 {
     let a = one_list(leading);
     let b = one_list(other);
     match a {
-        OneList::Is(l) => match b {
-            OneList::Is(o) => TwoLists::Are(l, o),
-            OneList::Refused(n) => TwoLists::Refused(n),
+        Ok(l) => match b {
+            Ok(o) => Ok((l, o)),
+            Err(e) => Err(e),
         },
-        OneList::Refused(m) => match b {
-            OneList::Is(_) => TwoLists::Refused(m),
-            OneList::Refused(n) => TwoLists::Refused(smaller(m, n)),
+        Err(d) => match b {
+            Ok(_) => Err(d),
+            Err(e) => Err(lower(d, e)),
         },
     }
 }

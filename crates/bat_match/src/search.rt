@@ -4,11 +4,11 @@ ghost use Rattle.std.specs.Prelude.{◌≡◌, true, ◌≤◌, ◌<◌, length,
 ghost use Rattle.bat_match.specs.Matching.{has_octets};
 ghost use Rattle.bat_match.specs.Private.{all_singles, codecs_at, CodecAt, FirstCommon, starting_before};
 
-use crate::{Choice, FramedCodec};
-use bat::Framed;
-use octets::Span;
-use octets::spans::text;
+use crate::FramedCodec;
+use bat::framing::{first_element, header_length, whole_length};
+use octets::spans::{after, text};
 use octets::words::equals;
+use octets::{Refusal, Span};
 
 // The codec at a place of a list. (Everything there is single codecs, so it can be framed.)
 pub(crate) fn codec_at(s: &[u8], at: usize) -> FramedCodec
@@ -16,27 +16,29 @@ pub(crate) fn codec_at(s: &[u8], at: usize) -> FramedCodec
     requires at_in_bounds { at < length s.now }
     ensures { CodecAt s.now at result }
 {
-    let x = bat::framing::first_element(octets::spans::after(s, at));
-    let Framed::Whole(f) = x else {
-        let none = Span { at: at, len: 0 };
+    let Ok(Some(f)) = first_element(after(s, at)) else {
         return FramedCodec {
-            contents: none,
+            contents: Span { at: at, len: 0 },
             end: s.len(),
         };
     };
-    let contents = Span {
-        at: at + bat::framing::header_length(f),
-        len: f.length as usize,
-    };
     FramedCodec {
-        contents: contents,
-        end: at + bat::framing::whole_length(f),
+        contents: Span {
+            at: at + header_length(f),
+            len: f.length as usize,
+        },
+        end: at + whole_length(f),
     }
 }
 
-// The place of the first codec of the leading list that the other list also has, or number 15: a walk over both lists,
-// left at the first codec that is in both.
-pub(crate) fn first_common(leading: &[u8], from: usize, other: &[u8], other_from: usize) -> Choice
+// The place of the first codec of the leading list that the other list also has, if there is one: a walk over
+// both lists, left at the first codec that is in both.
+pub(crate) fn first_common(
+    leading: &[u8],
+    from: usize,
+    other: &[u8],
+    other_from: usize,
+) -> Result<Span, Refusal>
     requires leading_value { all_singles (drop from leading.now) ≡ true }
     requires other_value { all_singles (drop other_from other.now) ≡ true }
     ensures { FirstCommon leading.now from (codecs_at other.now other_from) result }
@@ -60,9 +62,9 @@ pub(crate) fn first_common(leading: &[u8], from: usize, other: &[u8], other_from
         at = c.end;
     }
     if len == 0 {
-        return Choice::Refused(15);
+        return Err(Refusal::NoCommonCodec);
     }
-    Choice::At(Span { at: at, len: len })
+    Ok(Span { at: at, len: len })
 }
 
 // Whether one of the codecs of a list that start before `end` has these contents.

@@ -1,14 +1,20 @@
 -- `choose` meets its contract: two strings that are lists are matched by the codecs in both.
 -- Assumes nothing.
 use borrow.Author.Rules.{rules}
+use Rattle.std.proofs.lemmas.Result.{err_from_is_err_and}
 use Rattle.bat_match.proofs.ListLaws.{first_singles, second_singles, choices}
 use Rattle.bat_match.proofs.choose.Goals as goal
 
-pub first_common-requires : goal.first_common-requires
-first_common-requires c = search (first_singles, second_singles, rules)
+pub first_common-requires-clause-leading_value : goal.first_common-requires-clause-leading_value
+first_common-requires-clause-leading_value c = search (first_singles, c.in_ok-l.was, rules)
 
-pub returns-in-Are : goal.returns-in-Are
-returns-in-Are c = search (choices, rules)
+pub first_common-requires-clause-other_value : goal.first_common-requires-clause-other_value
+first_common-requires-clause-other_value c = search (second_singles, c.in_ok-l.was, rules)
 
-pub returns-in-Refused : goal.returns-in-Refused
-returns-in-Refused c = search (choices, rules)
+pub returns-in_err-l : goal.returns-in_err-l
+returns-in_err-l c =
+    let p = err_from_is_err_and c.from_residual.result c.from_residual.ensures.1 in
+    rw (p.1, p.2) (search (choices, c.in_err-l.was, rules))
+
+pub returns : goal.returns
+returns c = search (choices, c.in_ok-l.was, rules)

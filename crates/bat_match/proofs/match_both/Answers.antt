@@ -5,11 +5,11 @@ use Rattle.bat_match.proofs.SearchLaws.{found_at}
 use Rattle.bat_match.proofs.AnswerLaws.{answers_found, answers_none}
 use Rattle.bat_match.proofs.match_both.Goals as goal
 
-pub put_reduced-w-requires : goal.put_reduced-w-requires
-put_reduced-w-requires c = search (found_at, rules)
+pub put_reduced-requires : goal.put_reduced-requires
+put_reduced-requires c = search (found_at, rules)
 
-pub returns-in-At : goal.returns-in-At
-returns-in-At c = search (answers_found, rules)
+pub returns-in-Ok : goal.returns-in-Ok
+returns-in-Ok c = search (answers_found, rules)
 
-pub returns-in-Refused : goal.returns-in-Refused
-returns-in-Refused c = search (answers_none, rules)
+pub returns-in-Err : goal.returns-in-Err
+returns-in-Err c = search (answers_none, rules)

@@ -8,5 +8,5 @@ use Rattle.bat_match.proofs.match_strings.Goals as goal
 pub match_both-requires : goal.match_both-requires
 match_both-requires c = search (lists_are, rules)
 
-pub returns-in-Refused : goal.returns-in-Refused
-returns-in-Refused c = search (answers_refused, rules)
+pub returns-in-Err : goal.returns-in-Err
+returns-in-Err c = search (answers_refused, rules)

@@ -1,4 +1,4 @@
--- `lists::one_list` meets its contract: the count of elements, of which there is to be one, gives the numbers.
+-- `lists::one_list` meets its contract: the count of elements, of which there is to be one, gives the refusals.
 -- Assumes nothing.
 use borrow.Author.Rules.{rules}
 use Rattle.bat_match.specs.Private.{OneListIs}
@@ -8,14 +8,10 @@ use Rattle.bat_match.proofs.lists.one_list.Goals as goal
 pub only_list-requires : goal.only_list-requires
 only_list-requires c = search (one_at_most, rules)
 
-pub returns-then-n-eq3 : goal.returns-then-n-eq3
+pub returns-in-Err-TableTooShort : goal.returns-in-Err-TableTooShort
 unfolding OneListIs
-returns-then-n-eq3 c = search (alone_many, rules)
+returns-in-Err-TableTooShort c = search (alone_many, rules)
 
-pub returns-in-Elements : goal.returns-in-Elements
+pub returns-in-Err : goal.returns-in-Err
 unfolding OneListIs
-returns-in-Elements c = search rules
-
-pub returns-else-n-eq3 : goal.returns-else-n-eq3
-unfolding OneListIs
-returns-else-n-eq3 c = search (alone_refused, rules)
+returns-in-Err c = search (alone_refused, rules)

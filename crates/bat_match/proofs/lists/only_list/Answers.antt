@@ -2,21 +2,25 @@
 -- Assumes nothing.
 use borrow.Author.Rules.{rules}
 use Rattle.bat_match.specs.Private.{OneListIs}
-use Rattle.bat_match.proofs.ListLaws.{only_none, only_other, only_unrecognised, only_list_lem}
+use Rattle.bat_match.proofs.ListLaws.{onlies}
 use Rattle.bat_match.proofs.lists.only_list.Goals as goal
 
 pub returns-in_default : goal.returns-in_default
 unfolding OneListIs
-returns-in_default c = search (only_none, rules)
+returns-in_default c = search (onlies, rules)
+
+pub returns-in_default-2 : goal.returns-in_default-2
+unfolding OneListIs
+returns-in_default-2 c = search (onlies, rules)
 
 pub returns-then-f-ne4 : goal.returns-then-f-ne4
 unfolding OneListIs
-returns-then-f-ne4 c = search (only_other, rules)
+returns-then-f-ne4 c = search (onlies, rules)
 
-pub returns-in-Decoded : goal.returns-in-Decoded
+pub returns-in-Ok : goal.returns-in-Ok
 unfolding OneListIs
-returns-in-Decoded c = search (only_list_lem, rules)
+returns-in-Ok c = search (onlies, rules)
 
-pub returns-in-Unrecognised : goal.returns-in-Unrecognised
+pub returns-in-Err : goal.returns-in-Err
 unfolding OneListIs
-returns-in-Unrecognised c = search (only_unrecognised, rules)
+returns-in-Err c = search (onlies, rules)
