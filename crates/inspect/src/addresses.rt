@@ -1,10 +1,11 @@
 // address FAMILY HEX: the text of an address read, and the address written again.
 use crate::input;
 use address::{ipv4, ipv6, write};
-use octets::{append, parts, spans};
+use octets::append::Cursor;
+use octets::{parts, spans};
 
 // Appends the answer to the line, unless it is a bad one.
-pub(crate) fn push_answer(line: &[u8], data: &mut [u8], out: &mut [u8], at: usize) -> Option<usize> {
+pub(crate) fn push_answer(line: &[u8], data: &mut [u8], out: &mut Cursor<'_>) -> Option<()> {
     if parts::separators(line, b' ') != 2 {
         return None;
     }
@@ -16,8 +17,9 @@ pub(crate) fn push_answer(line: &[u8], data: &mut [u8], out: &mut [u8], at: usiz
         6 => ipv6::read_ipv6(text),
         _ => return None,
     };
-    Some(match read {
-        Some(a) => write::push_address(a, out, at),
-        None => append::push(b"no", out, at),
-    })
+    match read {
+        Some(a) => write::push_address(a, out),
+        None => out.push(b"no"),
+    }
+    Some(())
 }

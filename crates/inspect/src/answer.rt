@@ -1,5 +1,6 @@
 // The answer to a line, by its mode word.
 use crate::{addresses, codec_match, elements, message, print, rewrite, tunnel};
+use octets::append::Cursor;
 use octets::parts;
 
 // Appends what the line's mode answers, unless the line is a bad one. A mode gets `data` for the octets that the line's digits stand
@@ -8,27 +9,25 @@ fn push_mode(
     line: &[u8],
     data: &mut [u8],
     room: &mut [u8],
-    out: &mut [u8],
-    at: usize,
-) -> Option<usize> {
+    out: &mut Cursor<'_>) -> Option<()> {
     let mode = parts::part(line, b' ', 0);
     if mode == b"elements" {
-        return elements::push_answer(line, data, out, at);
+        return elements::push_answer(line, data, out);
     }
     if mode == b"rewrite" {
-        return rewrite::push_answer(line, data, room, out, at);
+        return rewrite::push_answer(line, data, room, out);
     }
     if mode == b"tunnel" {
-        return tunnel::push_answer(line, data, room, out, at);
+        return tunnel::push_answer(line, data, room, out);
     }
     if mode == b"message" {
-        return message::push_answer(line, data, out, at);
+        return message::push_answer(line, data, out);
     }
     if mode == b"address" {
-        return addresses::push_answer(line, data, out, at);
+        return addresses::push_answer(line, data, out);
     }
     if mode == b"match" {
-        return codec_match::push_answer(line, data, room, out, at);
+        return codec_match::push_answer(line, data, room, out);
     }
     None
 }
@@ -38,11 +37,10 @@ pub(crate) fn push_answer(
     line: &[u8],
     data: &mut [u8],
     room: &mut [u8],
-    out: &mut [u8],
-    at: usize,
-) -> usize {
-    match push_mode(line, data, room, out, at) {
-        Some(k) => k,
-        None => print::bad_line(out, at),
+    out: &mut Cursor<'_>,
+) {
+    match push_mode(line, data, room, out) {
+        Some(()) => {}
+        None => print::bad_line(out),
     }
 }

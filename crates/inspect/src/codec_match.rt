@@ -1,7 +1,8 @@
 // match LEAD BUFFER OFFERED OWN: two codec lists matched, with a buffer of that length for the reduced list.
 use crate::{input, print};
 use notation::push_refused;
-use octets::{append, parts, spans};
+use octets::append::Cursor;
+use octets::{parts, spans};
 
 // Whether the word names the own list as the leading one, if it names a list.
 fn own_leads(word: &[u8]) -> Option<bool> {
@@ -20,16 +21,15 @@ fn push_match(
     own: &[u8],
     own_leads: bool,
     room: &mut [u8],
-    out: &mut [u8],
-    at: usize,
-) -> usize {
+    out: &mut Cursor<'_>,
+) {
     let m = bat_match::match_lists(offered, own, own_leads, room);
     match m.choice {
-        Err(e) => push_refused(e, out, at),
+        Err(e) => push_refused(e, out),
         Ok(p) => {
-            let k = append::push_number_then(p.at as u64, b'/', out, at);
-            let j = append::push_number_then(p.len as u64, b' ', out, k);
-            print::written(m.reduced, room, out, j)
+            out.push_number_then(p.at as u64, b'/');
+            out.push_number_then(p.len as u64, b' ');
+            print::written(m.reduced, room, out);
         }
     }
 }
@@ -39,9 +39,7 @@ pub(crate) fn push_answer(
     line: &[u8],
     data: &mut [u8],
     room: &mut [u8],
-    out: &mut [u8],
-    at: usize,
-) -> Option<usize> {
+    out: &mut Cursor<'_>) -> Option<()> {
     if parts::separators(line, b' ') != 4 {
         return None;
     }
@@ -55,12 +53,6 @@ pub(crate) fn push_answer(
     let offered = spans::up_to(data, n);
     let own = spans::up_to(spans::after(data, n), m);
     let k = (buffer as usize).min(room.len());
-    Some(push_match(
-        offered,
-        own,
-        own_leads,
-        &mut room[..k],
-        out,
-        at,
-    ))
+    push_match(offered, own, own_leads, &mut room[..k], out);
+    Some(())
 }

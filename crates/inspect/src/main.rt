@@ -11,11 +11,10 @@ mod print;
 mod rewrite;
 mod tunnel;
 mod values;
-mod walk;
 
 use bat::MOST_OCTETS;
 use line_run::{Answer, run};
-use octets::append::push_octet;
+use octets::append::Cursor;
 
 // How many octets are read at once, and how many may wait to be written.
 const BUFFER: usize = 65536;
@@ -43,24 +42,21 @@ impl Answer for Inspector {
         fits: bool,
         _ended: bool,
         room: &mut [u8],
-        out: &mut [u8],
-        at: usize,
-    ) -> usize {
-        let k = if fits {
-            answer::push_answer(line, &mut self.data, room, out, at)
+        out: &mut Cursor<'_>,
+    ) {
+        if fits {
+            answer::push_answer(line, &mut self.data, room, out);
         } else {
-            print::bad_line(out, at)
-        };
-        push_octet(b'\n', out, k)
+            print::bad_line(out);
+        }
+        out.push_octet(b'\n');
     }
 
     fn goes_on(&self) -> bool {
         true
     }
 
-    fn finish(&self, _out: &mut [u8], at: usize) -> usize {
-        at
-    }
+    fn finish(&self, _out: &mut Cursor<'_>) {}
 }
 
 // A written element has at most 2,048 octets, so no more of a longer buffer is used.

@@ -3,7 +3,8 @@
 use crate::{input, print};
 use bat::{Frame, Unframed, framing};
 use notation::push_refused;
-use octets::{Refusal, append, parts, spans};
+use octets::append::Cursor;
+use octets::{Refusal, parts, spans};
 
 // Writes the element f at the front of s again; none if it is not recognised.
 fn rewritten(
@@ -35,14 +36,17 @@ fn only_element(data: &[u8]) -> Result<Frame, Refusal> {
 }
 
 // Appends the answer to data, which is to be one element.
-fn push_data(data: &[u8], compatibility: u16, room: &mut [u8], out: &mut [u8], at: usize) -> usize {
+fn push_data(data: &[u8], compatibility: u16, room: &mut [u8], out: &mut Cursor<'_>) {
     let f = match only_element(data) {
         Ok(f) => f,
-        Err(e) => return push_refused(e, out, at),
+        Err(e) => {
+            push_refused(e, out);
+            return;
+        }
     };
     match rewritten(data, f, compatibility, room) {
-        Some(written) => print::written(written, room, out, at),
-        None => append::push(b"unknown", out, at),
+        Some(written) => print::written(written, room, out),
+        None => out.push(b"unknown"),
     }
 }
 
@@ -51,9 +55,7 @@ pub(crate) fn push_answer(
     line: &[u8],
     data: &mut [u8],
     room: &mut [u8],
-    out: &mut [u8],
-    at: usize,
-) -> Option<usize> {
+    out: &mut Cursor<'_>) -> Option<()> {
     if parts::separators(line, b' ') != 3 {
         return None;
     }
@@ -61,11 +63,6 @@ pub(crate) fn push_answer(
     let compatibility = input::number(line, 2)?;
     let n = input::unpack(line, 3, data)?;
     let k = (buffer as usize).min(room.len());
-    Some(push_data(
-        spans::up_to(data, n),
-        compatibility,
-        &mut room[..k],
-        out,
-        at,
-    ))
+    push_data(spans::up_to(data, n), compatibility, &mut room[..k], out);
+    Some(())
 }

@@ -2,15 +2,16 @@
 use crate::{input, print};
 use bctp::Packet;
 use notation::push_refused;
-use octets::{append, parts, spans};
+use octets::append::Cursor;
+use octets::{parts, spans};
 
 // Appends the answer to a packet. A reply is the two octets at the front of room.
-fn push_packet(packet: &[u8], room: &mut [u8], out: &mut [u8], at: usize) -> usize {
+fn push_packet(packet: &[u8], room: &mut [u8], out: &mut Cursor<'_>) {
     match bctp::open(packet, room) {
-        Err(e) => push_refused(e, out, at),
-        Ok(Packet::Notice) => append::push(b"notice", out, at),
-        Ok(Packet::Reply) => print::named(b"reply ", spans::up_to(room, 2), out, at),
-        Ok(Packet::Message) => print::named(b"message ", spans::after(packet, 2), out, at),
+        Err(e) => push_refused(e, out),
+        Ok(Packet::Notice) => out.push(b"notice"),
+        Ok(Packet::Reply) => print::named(b"reply ", spans::up_to(room, 2), out),
+        Ok(Packet::Message) => print::named(b"message ", spans::after(packet, 2), out),
     }
 }
 
@@ -19,19 +20,13 @@ pub(crate) fn push_answer(
     line: &[u8],
     data: &mut [u8],
     room: &mut [u8],
-    out: &mut [u8],
-    at: usize,
-) -> Option<usize> {
+    out: &mut Cursor<'_>) -> Option<()> {
     if parts::separators(line, b' ') != 2 {
         return None;
     }
     let buffer = input::number(line, 1)?;
     let n = input::unpack(line, 2, data)?;
     let k = (buffer as usize).min(room.len());
-    Some(push_packet(
-        spans::up_to(data, n),
-        &mut room[..k],
-        out,
-        at,
-    ))
+    push_packet(spans::up_to(data, n), &mut room[..k], out);
+    Some(())
 }

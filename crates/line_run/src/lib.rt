@@ -6,29 +6,29 @@ ghost use Rattle.line_run.specs.Run.{SameLengths};
 
 use line_input::gather;
 use line_output::{Output, flush, make_room};
+use octets::append::Cursor;
 use octets::spans::up_to;
 use std::io::{Read, Write};
 
 // What answers the lines of an input.
 pub trait Answer {
-    // Appends the answer to a line to the `at` octets in out, and answers where the next octet goes. `line` is without its LF, and has as
-    // many octets as there was room for. `fits` says whether these are all, and `ended` whether an LF ended the line: the last one
-    // may have none. `room` is lent for what an answer needs besides.
+    // Appends the answer to a line. `line` is without its LF, and has as many octets as there was room for. `fits` says whether these
+    // are all, and `ended` whether an LF ended the line: the last one may have none. `room` is lent for what an answer needs
+    // besides.
     fn answer(
         &mut self,
         line: &[u8],
         fits: bool,
         ended: bool,
         room: &mut [u8],
-        out: &mut [u8],
-        at: usize,
-    ) -> usize;
+        out: &mut Cursor<'_>,
+    );
 
     // Whether another line is wanted.
     fn goes_on(&self) -> bool;
 
     // Appends what is printed at the end of the input.
-    fn finish(&self, out: &mut [u8], at: usize) -> usize;
+    fn finish(&self, out: &mut Cursor<'_>);
 }
 
 // What is kept from line to line.
@@ -65,7 +65,12 @@ fn feed<W: Write, E: Write, A: Answer>(
         p.len = g.len;
         p.over = g.over;
         if g.ended {
-            let at = answer.answer(up_to(line, g.len), !g.over, true, room, out, p.output.at);
+            let mut written = Cursor {
+                out: &mut *out,
+                at: p.output.at,
+            };
+            answer.answer(up_to(line, g.len), !g.over, true, room, &mut written);
+            let at = written.at;
             p = answered(to, errors, at, least, out);
         }
     }
@@ -115,10 +120,20 @@ fn finish<W: Write, E: Write, A: Answer>(
 ) {
     let mut p = progress;
     if 0 < p.len {
-        let at = answer.answer(up_to(line, p.len), !p.over, false, room, out, p.output.at);
+        let mut written = Cursor {
+            out: &mut *out,
+            at: p.output.at,
+        };
+        answer.answer(up_to(line, p.len), !p.over, false, room, &mut written);
+        let at = written.at;
         p = answered(to, errors, at, least, out);
     }
-    let at = answer.finish(out, p.output.at);
+    let mut written = Cursor {
+        out: &mut *out,
+        at: p.output.at,
+    };
+    answer.finish(&mut written);
+    let at = written.at;
     let taken = p.output.taken;
     flush(to, errors, out, Output { at, taken });
 }
@@ -167,7 +182,6 @@ pub fn run<R: Read, W: Write, E: Write, A: Answer>(
 #[cfg(test)]
 mod tests {
     use super::*;
-    use octets::append::{push, push_octet};
     use std::alloc::Global;
     use std::test::Fail;
 
@@ -184,21 +198,20 @@ mod tests {
             fits: bool,
             ended: bool,
             _room: &mut [u8],
-            out: &mut [u8],
-            at: usize,
-        ) -> usize {
+            out: &mut Cursor<'_>,
+        ) {
             self.going = !line.starts_with(b".");
-            let k = push(line, out, at);
-            let k2 = push_octet(if fits { b'+' } else { b'-' }, out, k);
-            push_octet(if ended { b'\n' } else { b'?' }, out, k2)
+            out.push(line);
+            out.push_octet(if fits { b'+' } else { b'-' });
+            out.push_octet(if ended { b'\n' } else { b'?' });
         }
 
         fn goes_on(&self) -> bool {
             self.going
         }
 
-        fn finish(&self, out: &mut [u8], at: usize) -> usize {
-            push(b"end", out, at)
+        fn finish(&self, out: &mut Cursor<'_>) {
+            out.push(b"end");
         }
     }
 

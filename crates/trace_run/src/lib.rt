@@ -4,6 +4,7 @@
 ghost use Rattle.line_run.specs.Run.{SameLengths};
 
 use line_run::Answer;
+use octets::append::Cursor;
 use std::io::{Read, Write};
 use trace::{Phase, Session};
 
@@ -29,13 +30,10 @@ impl Answer for Tracer {
         fits: bool,
         ended: bool,
         room: &mut [u8],
-        out: &mut [u8],
-        at: usize,
-    ) -> usize {
+        out: &mut Cursor<'_>,
+    ) {
         let whole = fits && ended;
-        let stepped = self.session.step(self.detailed, line, whole, room, out, at);
-        self.session = stepped.session;
-        stepped.at
+        self.session = self.session.step(self.detailed, line, whole, room, out);
     }
 
     // Once the configuration is refused, nothing more is printed.
@@ -43,8 +41,8 @@ impl Answer for Tracer {
         !matches!(self.session.phase, Phase::Stopped)
     }
 
-    fn finish(&self, out: &mut [u8], at: usize) -> usize {
-        self.session.finish(out, at)
+    fn finish(&self, out: &mut Cursor<'_>) {
+        self.session.finish(out);
     }
 }
 
