@@ -16,10 +16,10 @@ use Rattle.octets.specs.declared.Span.{Span}
 use Rattle.octets.specs.Spans.{text_of, inside}
 use Rattle.octets.specs.Append.{put, appended}
 use Rattle.octets.proofs.CaseLaws.{by_le}
-use Rattle.address.specs.declared.Address.{Address}
 use Rattle.media.specs.declared.Stream.{Stream as Places}
 use Rattle.media.specs.Stream.{Stream}
 use Rattle.media.specs.Meaning.{texts_by, spans_of, stream_by, all_in, texts_inside, stream_inside, stream_in}
+use Rattle.ipbcp.specs.declared.Description.{Description}
 use Rattle.ipbcp.specs.Reading.{most_read}
 use Rattle.bearer.specs.Bearer.{Bearer}
 use Rattle.bearer.specs.Hearing.{nothing_heard, request_heard, accepted_heard, heard}
@@ -95,20 +95,20 @@ appended_front : (l m : List ℕ) → length m ≤ length l → appended l 0 m �
 unfolding appended put
 appended_front l m h = rw (take_all (length l - 0) m (omega arith), zero-add (length m))
 
-pub held_names : (m : List ℕ) (a : Address) (s : Places) (t : Stream) → stream_in m s ≡ some t → length m ≤ most_read
-    → bearer_by (bearer_as a s m) ≡ record { address = a; stream = t }
+pub held_names : (m : List ℕ) (d : Description) (t : Stream) → stream_in m d.stream ≡ some t → length m ≤ most_read
+    → bearer_by (bearer_as d m) ≡ record { address = d.address; stream = t }
 unfolding bearer_by
-held_names m a s t h k =
+held_names m d t h k =
     let l : List ℕ = replicate most_read 0 in
     let n : length l ≡ most_read = length-replicate {A = ℕ} most_read 0 in
-    rw (appended_front l m (omega arith), stream_front m (drop (length m) l) s (stream_in_inside m s t h), ← stream_in_by m s t h)
+    rw (appended_front l m (omega arith), stream_front m (drop (length m) l) d.stream (stream_in_inside m d.stream t h), ← stream_in_by m d.stream t h)
 
 -- its texts lie inside its array
-pub held_inside : (m : List ℕ) (a : Address) (s : Places) (t : Stream) → stream_in m s ≡ some t → length m ≤ most_read → bearer_inside (bearer_as a s m) ≡ true
-held_inside m a s t h k =
+pub held_inside : (m : List ℕ) (d : Description) (t : Stream) → stream_in m d.stream ≡ some t → length m ≤ most_read → bearer_inside (bearer_as d m) ≡ true
+held_inside m d t h k =
     let l : List ℕ = replicate most_read 0 in
     let n : length l ≡ most_read = length-replicate {A = ℕ} most_read 0 in
-    rw (appended_front l m (omega arith)) (stream_inside_front m (drop (length m) l) s (stream_in_inside m s t h))
+    rw (appended_front l m (omega arith)) (stream_inside_front m (drop (length m) l) d.stream (stream_in_inside m d.stream t h))
 
 -- ---- messages that are heard are short
 short_or : (m : List ℕ) → (heard m ≡ nothing_heard → ⊥) → length m ≤ most_read

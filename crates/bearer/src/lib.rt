@@ -7,7 +7,7 @@ ghost use Rattle.bearer.specs.Meaning.{bearer_as, places_as};
 
 use address::Address;
 use configuration::MOST_NAME;
-use ipbcp::MOST_READ;
+use ipbcp::{Description, MOST_READ};
 use media::Stream;
 use octets::append::push;
 
@@ -29,32 +29,30 @@ pub struct Bearer {
     pub text: [u8; MOST_READ],
 }
 
-// What a message is to an endpoint. The texts of a stream are places in the message.
+// What a message is to an endpoint. The texts of a description are places in the message.
 #[derive(Clone, Copy)]
 pub enum Heard {
     // Number 8 or 9.
     Unreadable,
     // A Request of another version.
     OtherRequest,
-    // A Request of version 1 that can't be read to its end.
-    BadRequest,
-    Request { address: Address, stream: Stream },
-    // An Accepted of another version, or one that can't be read to its end.
-    BadAccepted,
-    Accepted { address: Address, stream: Stream },
+    // A Request of version 1, and what it says if it can be read to its end.
+    Request(Option<Description>),
+    // An Accepted of any version, and what it says if it is of version 1 and can be read to its end.
+    Accepted(Option<Description>),
     // A Rejected or a Confused, of any version.
     Declined,
 }
 
-// The bearer of the message m: the stream has its texts in m, which is copied.
-pub fn hold(address: Address, stream: Stream, m: &[u8]) -> Bearer
-    ensures { result ≡ bearer_as address stream m.now }
+// The bearer of the message m: the description has its texts in m, which is copied.
+pub fn hold(description: Description, m: &[u8]) -> Bearer
+    ensures { result ≡ bearer_as description m.now }
 {
     let mut text = [0u8; MOST_READ];
     push(m, &mut text, 0);
     Bearer {
-        address,
-        stream,
+        address: description.address,
+        stream: description.stream,
         text,
     }
 }
@@ -63,8 +61,5 @@ pub fn hold(address: Address, stream: Stream, m: &[u8]) -> Bearer
 pub fn restate(s: Stream, port: u16, ptime: u8) -> Stream
     ensures { result ≡ places_as port ptime s }
 {
-    let mut r = s;
-    r.port = port;
-    r.ptime = ptime;
-    r
+    Stream { port, ptime, ..s }
 }
