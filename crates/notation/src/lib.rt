@@ -2,14 +2,14 @@
 #![tactic(auto)]
 
 ghost use Rattle.std.specs.Prelude.{◌≡◌, map};
-ghost use Rattle.octets.specs.Append.{Appends};
+ghost use Rattle.octets.specs.Append.{Pushes};
 ghost use Rattle.octets.specs.Spans.{text_of};
 ghost use Rattle.media.specs.Meaning.{texts_by};
 ghost use Rattle.notation.specs.Notation.{octets_shown, text_shown, text_after, texts_after, texts_shown, refused_shown, ReadsOctets, length_in};
 ghost use Rattle.notation.specs.Private.{large_in, pair_in, shown};
 
 use media::Texts;
-use octets::append::{push, push_number, push_octet};
+use octets::append::Cursor;
 use octets::decimal::read_number;
 use octets::hex::{digit, push_hex};
 use octets::spans::text;
@@ -17,66 +17,66 @@ use octets::words::digit_run;
 use octets::{Refusal, Span};
 
 // Appends octets as digits, or the word if there are none.
-fn push_shown(word: &[u8], s: &[u8], out: &mut [u8], at: usize) -> usize
-    ensures { Appends out.old at (shown word.now s.now) result out.new }
+fn push_shown(word: &[u8], s: &[u8], out: &mut Cursor<'_>)
+    ensures { Pushes out.old out.new (shown word.now s.now) }
 {
     if s.is_empty() {
-        return push(word, out, at);
+        out.push(word);
+        return;
     }
-    push_hex(s, out, at)
+    push_hex(s, out);
 }
 
 // Appends octets as digits, or `-` if there are none.
-pub fn push_octets(s: &[u8], out: &mut [u8], at: usize) -> usize
-    ensures { Appends out.old at (octets_shown s.now) result out.new }
+pub fn push_octets(s: &[u8], out: &mut Cursor<'_>)
+    ensures { Pushes out.old out.new (octets_shown s.now) }
 {
-    push_shown(b"-", s, out, at)
+    push_shown(b"-", s, out);
 }
 
 // Appends the text of sp in m as digits, or `empty` if it is empty.
-fn push_span(m: &[u8], sp: Span, out: &mut [u8], at: usize) -> usize
-    ensures { Appends out.old at (text_shown (text_of m.now sp)) result out.new }
+fn push_span(m: &[u8], sp: Span, out: &mut Cursor<'_>)
+    ensures { Pushes out.old out.new (text_shown (text_of m.now sp)) }
 {
-    push_shown(b"empty", text(m, sp), out, at)
+    push_shown(b"empty", text(m, sp), out);
 }
 
 // Appends a comma and the text of sp in m.
-fn push_next(m: &[u8], sp: Span, out: &mut [u8], at: usize) -> usize
-    ensures { Appends out.old at (text_after (text_of m.now sp)) result out.new }
+fn push_next(m: &[u8], sp: Span, out: &mut Cursor<'_>)
+    ensures { Pushes out.old out.new (text_after (text_of m.now sp)) }
 {
-    let k = push_octet(b',', out, at);
-    push_span(m, sp, out, k)
+    out.push_octet(b',');
+    push_span(m, sp, out);
 }
 
 // Appends the texts of the spans, a comma before each.
-fn push_rest(m: &[u8], spans: &[Span], out: &mut [u8], at: usize) -> usize
-    ensures { Appends out.old at (texts_after (map (text_of m.now) spans.now)) result out.new }
+fn push_rest(m: &[u8], spans: &[Span], out: &mut Cursor<'_>)
+    ensures { Pushes out.old out.new (texts_after (map (text_of m.now) spans.now)) }
 {
-    let mut k = at;
     for sp in spans {
-        k = push_next(m, *sp, out, k);
+        push_next(m, *sp, out);
     }
-    k
 }
 
 // Appends the texts of x in m with commas between them, or `-` if there are none.
-pub fn push_texts(m: &[u8], x: Texts, out: &mut [u8], at: usize) -> usize
-    ensures { Appends out.old at (texts_shown (texts_by m.now x)) result out.new }
+pub fn push_texts(m: &[u8], x: Texts, out: &mut Cursor<'_>)
+    ensures { Pushes out.old out.new (texts_shown (texts_by m.now x)) }
 {
     let spans = x.as_slice();
     if spans.is_empty() {
-        return push_octet(b'-', out, at);
+        out.push_octet(b'-');
+        return;
     }
-    let k = push_span(m, spans[0], out, at);
-    push_rest(m, &spans[1..], out, k)
+    push_span(m, spans[0], out);
+    push_rest(m, &spans[1..], out);
 }
 
 // Appends a refusal.
-pub fn push_refused(e: Refusal, out: &mut [u8], at: usize) -> usize
-    ensures { Appends out.old at (refused_shown e) result out.new }
+pub fn push_refused(e: Refusal, out: &mut Cursor<'_>)
+    ensures { Pushes out.old out.new (refused_shown e) }
 {
-    let k = push(b"refused-", out, at);
-    push_number(e.number() as u64, out, k)
+    out.push(b"refused-");
+    out.push_number(e.number() as u64);
 }
 
 // The octet that two digits stand for.

@@ -5,4 +5,4 @@ use Rattle.octets.proofs.AppendLaws.{octet_then}
 use Rattle.notation.proofs.push_next.Goals as goal
 
 pub returns : goal.returns
-returns c = search (octet_then, rules)
+returns c = record { lent = search rules; appends = search (octet_then, rules) }

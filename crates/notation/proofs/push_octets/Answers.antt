@@ -5,4 +5,4 @@ use Rattle.notation.proofs.Laws.{octets_word}
 use Rattle.notation.proofs.push_octets.Goals as goal
 
 pub returns : goal.returns
-returns c = search (octets_word, rules)
+returns c = record { lent = search rules; appends = search (octets_word, rules) }

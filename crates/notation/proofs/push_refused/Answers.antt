@@ -5,4 +5,4 @@ use Rattle.notation.proofs.Laws.{refused_shown_lem}
 use Rattle.notation.proofs.push_refused.Goals as goal
 
 pub returns : goal.returns
-returns c = search (refused_shown_lem, rules)
+returns c = record { lent = search rules; appends = search (refused_shown_lem, rules) }

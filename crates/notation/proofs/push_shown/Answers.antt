@@ -6,7 +6,7 @@ use Rattle.notation.proofs.Laws.{shows}
 use Rattle.notation.proofs.push_shown.Goals as goal
 
 pub returns-then-is_empty : goal.returns-then-is_empty
-returns-then-is_empty c = search (shows, flags, rules)
+returns-then-is_empty c = record { lent = search rules; appends = search (shows, flags, rules) }
 
 pub returns : goal.returns
-returns c = search (shows, flags, rules)
+returns c = record { lent = search rules; appends = search (shows, flags, rules) }

@@ -5,4 +5,4 @@ use Rattle.notation.proofs.Laws.{span_shown}
 use Rattle.notation.proofs.push_span.Goals as goal
 
 pub returns : goal.returns
-returns c = search (span_shown, rules)
+returns c = record { lent = search rules; appends = search (span_shown, rules) }

@@ -6,7 +6,7 @@ use Rattle.notation.proofs.Laws.{joins}
 use Rattle.notation.proofs.push_texts.Goals as goal
 
 pub returns-then-is_empty : goal.returns-then-is_empty
-returns-then-is_empty c = search (joins, flags, rules)
+returns-then-is_empty c = record { lent = search rules; appends = search (joins, flags, rules) }
 
 pub returns : goal.returns
-returns c = search (joins, flags, rules)
+returns c = record { lent = search rules; appends = search (joins, flags, rules) }
