@@ -25,10 +25,7 @@ pub struct Gathered {
 fn is_over(over: bool, stored: usize, all: usize) -> bool
     ensures { result ≡ (over || ltb stored all) }
 {
-    if over {
-        return true;
-    }
-    stored < all
+    over || stored < all
 }
 
 // Puts the octets of part, from `from` to its first LF or to its end, after the len octets that are in line. What does

@@ -65,10 +65,7 @@ fn feed<W: Write, E: Write, A: Answer>(
         p.len = g.len;
         p.over = g.over;
         if g.ended {
-            let mut written = Cursor {
-                out: &mut *out,
-                at: p.output.at,
-            };
+            let mut written = Cursor::resume(out, p.output.at);
             answer.answer(up_to(line, g.len), !g.over, true, room, &mut written);
             let at = written.at;
             p = answered(to, errors, at, least, out);
@@ -120,18 +117,12 @@ fn finish<W: Write, E: Write, A: Answer>(
 ) {
     let mut p = progress;
     if 0 < p.len {
-        let mut written = Cursor {
-            out: &mut *out,
-            at: p.output.at,
-        };
+        let mut written = Cursor::resume(out, p.output.at);
         answer.answer(up_to(line, p.len), !p.over, false, room, &mut written);
         let at = written.at;
         p = answered(to, errors, at, least, out);
     }
-    let mut written = Cursor {
-        out: &mut *out,
-        at: p.output.at,
-    };
+    let mut written = Cursor::resume(out, p.output.at);
     answer.finish(&mut written);
     let at = written.at;
     let taken = p.output.taken;

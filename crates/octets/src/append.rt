@@ -24,6 +24,15 @@ impl<'a> Cursor<'a> {
         Cursor { out, at: 0 }
     }
 
+    // A buffer in which the octets up to `at` are written.
+    pub fn resume(out: &'a mut [u8], at: usize) -> Cursor<'a>
+        ensures lent { result.out.ghost_name ≡ out.entry.ghost_name }
+        ensures holds { result.out.now ≡ out.old }
+        ensures written { result.at ≡ at }
+    {
+        Cursor { out, at }
+    }
+
     // Appends src, as far as there is room.
     pub fn push(&mut self, src: &[u8])
         ensures { Pushes self.old self.new src.now }
