@@ -8,7 +8,7 @@ use mathlib.Core.Option.{Option, none, some}
 use lib.ListN.{length, take, drop}
 use lib.Seq.{take_at}
 use native.Mathlib.Omega.{arith}
-use Rattle.octets.specs.declared.Put.TheVariants.{Octets}
+use Rattle.std.specs.Prelude.{Ok}
 use Rattle.octets.specs.Puts.{Puts}
 use Rattle.octets.proofs.PutsLaws.{puts_no, puts_some}
 use Rattle.address.specs.declared.Address.{Address}
@@ -20,7 +20,7 @@ use Rattle.ipbcp.proofs.RoundTrip.{read_written}
 use Rattle.ipbcp_write.specs.Back.{Said}
 
 -- the first n octets are what there was to write
-pub puts_front : (o : Option (List ℕ)) (l : List ℕ) (n : ℕ) (f : List ℕ) → Puts o l (Octets n) f → o ≡ some (take n f)
+pub puts_front : (o : Option (List ℕ)) (l : List ℕ) (n : ℕ) (f : List ℕ) → Puts o l (Ok n) f → o ≡ some (take n f)
 puts_front none l n f p = absurd (puts_no l n f p)
 puts_front (some t) l n f p =
     let (count, leaves) = puts_some t l n f p in
@@ -34,5 +34,5 @@ said own fit (some c) t e = record { content = c; stands = refl; reads = read_wr
 
 -- from the contract of `write_message`, where it answers n octets
 pub message_written_back : (own : Address) → fits own → (source : List ℕ) (b : Body) (l : List ℕ) (n : ℕ) (f : List ℕ)
-    → Puts (message_octets_in own (content_in source b)) l (Octets n) f → Said own (content_in source b) (take n f)
+    → Puts (message_octets_in own (content_in source b)) l (Ok n) f → Said own (content_in source b) (take n f)
 message_written_back own fit source b l n f p = said own fit (content_in source b) (take n f) (puts_front (message_octets_in own (content_in source b)) l n f p)

@@ -26,24 +26,23 @@ lines_append (t ∷ ts) us =
     ap (λ (z : List ℕ). line_text t ++ z) (lines_append ts us) ∙ sym (append_assoc (line_text t) (lines_text ts) (lines_text us))
 
 -- ---- the own address
-module _ (own : Address) (l f : List ℕ) (at r : ℕ) where
-  pub family_four : (n : ℕ) → own ≡ V4 n → Appends l at (73 ∷ 78 ∷ 32 ∷ 73 ∷ 80 ∷ 52 ∷ 32 ∷ []) r f
-      → Appends l at (host_start own) r f
+module _ (own : Address) where
+  pub family_four : (n : ℕ) → own ≡ V4 n → 73 ∷ 78 ∷ 32 ∷ 73 ∷ 80 ∷ 52 ∷ 32 ∷ [] ≡ host_start own
   unfolding family_word
-  family_four n e p = rw e p
+  family_four n e = rw e
 
-  pub family_six : (high low : ℕ) → own ≡ V6 high low → Appends l at (73 ∷ 78 ∷ 32 ∷ 73 ∷ 80 ∷ 54 ∷ 32 ∷ []) r f
-      → Appends l at (host_start own) r f
+  pub family_six : (high low : ℕ) → own ≡ V6 high low → 73 ∷ 78 ∷ 32 ∷ 73 ∷ 80 ∷ 54 ∷ 32 ∷ [] ≡ host_start own
   unfolding family_word
-  family_six high low e p = rw e p
+  family_six high low e = rw e
 
 module _ (own : Address) (l f g h : List ℕ) (at a b r : ℕ) where
-  pub host_then : Appends g b (13 ∷ 10 ∷ []) r h → Appends f a (address_text own) b g
-      → Appends l at (host_start own) a f → Appends l at (line_text (host_text own)) r h
+  -- s is the text before the address
+  pub host_then : (s : List ℕ) → s ≡ host_start own → Appends g b (13 ∷ 10 ∷ []) r h → Appends f a (address_text own) b g
+      → Appends l at s a f → Appends l at (line_text (host_text own)) r h
   unfolding line_text host_text
-  host_then w v u =
+  host_then s e w v u =
       let x = append_then f g h (address_text own) (13 ∷ 10 ∷ []) a b r w v in
-      simp append_assoc (simp append_assoc at (append_then l f h (host_start own) _ at a r x u))
+      simp append_assoc (simp append_assoc at (append_then l f h (host_start own) _ at a r x (rw e at u)))
 
   pub origin_then : Appends f a (line_text (host_text own)) r g
       → Appends l at (118 ∷ 61 ∷ 48 ∷ 13 ∷ 10 ∷ 111 ∷ 61 ∷ 45 ∷ 32 ∷ 48 ∷ 32 ∷ 48 ∷ 32 ∷ []) a f
@@ -64,16 +63,13 @@ module _ (own : Address) (l f g h : List ℕ) (at a b r : ℕ) where
 
 -- ---- the type
 module _ (k : MessageType) (l f : List ℕ) (at r : ℕ) where
-  -- t is the word of w, which k is
-  pub word_of : (w : MessageType) (t : List ℕ) → k ≡ w → Appends l at t r f → t ≡ type_word w → Appends l at (type_word k) r f
-  word_of w t e p q = rw (e, ← q) p
-
-  pub ipbcp_then : (g h : List ℕ) (a b : ℕ) → Appends h b (13 ∷ 10 ∷ []) r f → Appends g a (type_word k) b h
+  -- w is its word
+  pub ipbcp_then : (w : List ℕ) → w ≡ type_word k → (g h : List ℕ) (a b : ℕ) → Appends h b (13 ∷ 10 ∷ []) r f → Appends g a w b h
       → Appends l at (116 ∷ 61 ∷ 48 ∷ 32 ∷ 48 ∷ 13 ∷ 10 ∷ 97 ∷ 61 ∷ 105 ∷ 112 ∷ 98 ∷ 99 ∷ 112 ∷ 58 ∷ 49 ∷ 32 ∷ []) a g
       → Appends l at (lines_text (time_text ∷ ipbcp_text k ∷ [])) r f
   unfolding lines_text line_text ipbcp_text
-  ipbcp_then g h a b v u t =
+  ipbcp_then w e g h a b v u t =
       simp append-nil
       (append_then l g f (116 ∷ 61 ∷ 48 ∷ 32 ∷ 48 ∷ 13 ∷ 10 ∷ 97 ∷ 61 ∷ 105 ∷ 112 ∷ 98 ∷ 99 ∷ 112 ∷ 58 ∷ 49 ∷ 32 ∷ []) _ at a r
-      (append_then g h f (type_word k) (13 ∷ 10 ∷ []) a b r v u)
+      (append_then g h f (type_word k) (13 ∷ 10 ∷ []) a b r v (rw e at u))
       t)

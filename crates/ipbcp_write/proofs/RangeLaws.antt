@@ -1,20 +1,20 @@
 -- Laws of the ranges: what the code found of each field, in the order of the definitions, tells whether all are right.
 -- Assumes nothing.
-use Prim.Native.Nat.{ℕ, zero, suc, ◌≤◌, ◌<◌}
+use Prim.Native.Nat.{ℕ, zero, suc, ◌+◌, ◌≤◌, ◌<◌}
 use mir.Syntax.{w8, w16}
 use mir.Val.{Fits}
-use mathlib.Core.Path.{◌≡◌, refl, sym, ◌∙◌}
-use mathlib.Core.List.{List, [], ◌∷◌, map}
-use mathlib.Core.Bool.{Bool, true, false, and-true}
-use lib.ListN.{length, take}
-use lib.Seq.{take_all, take-nil}
+use mathlib.Core.Path.{◌≡◌, sym, ◌∙◌}
+use mathlib.Core.List.{List, [], ◌∷◌, ◌++◌, map}
+use mathlib.Core.Bool.{Bool, true, false, ◌&&◌, and-true, and-false, and_assoc}
+use lib.ListN.{length, take, get_or}
+use Rattle.std.proofs.lemmas.List.{take_more, length-map}
 use lib.Dec.{leb}
 use native.Mathlib.Omega.{arith}
 use borrow.Author.Tests.{lt-ltb, le-ltb, le-leb, lt-leb}
+use Rattle.octets.specs.declared.Span.{Span}
 use Rattle.octets.specs.Split.{has, Found}
 use Rattle.octets.specs.Spans.{text_of}
 use Rattle.sdp.specs.Lines.{all_plain}
-use Rattle.media.specs.declared.Texts.{Texts}
 use Rattle.media.specs.declared.Stream.{Stream as Places}
 use Rattle.media.specs.Stream.{attributes_fit}
 use Rattle.media.specs.Meaning.{spans_of, texts_by, stream_by}
@@ -73,86 +73,57 @@ module _ (m : List ℕ) (s : Places) (a : List ℕ) (at : a ≡ text_of m s.medi
 
 pub ruleset medias = (media_none, port_none, transport_none, payload_is)
 
--- ---- the texts of fmtp lines, which the code has as a, b and c
-module _ (m : List ℕ) (x : Texts) where
-  pub plain_0 : x.count ≡ 0 → true ≡ all_texts_plain (texts_by m x)
-  unfolding all_texts_plain texts_by spans_of
-  plain_0 e = rw e
+-- ---- the texts at the places xs; t says whether the text a at i may be part of lines
+module _ (m : List ℕ) where
+  abbrev plain : List Span → Bool
+  plain xs = all_texts_plain (map (text_of m) xs)
 
-  module _ (n0 : x.count ≡ 0 → ⊥) (a : List ℕ) (fst : a ≡ text_of m x.first) (t : Bool) (is : t ≡ all_plain a) where
-    pub plain_first : t ≡ false → false ≡ all_texts_plain (texts_by m x)
-    unfolding all_texts_plain texts_by spans_of
-    plain_first e = go x.count n0 (rw (← fst) (sym is ∙ e))
-      where
-        go : (n : ℕ) → (n ≡ 0 → ⊥) → all_plain (text_of m x.first) ≡ false → false ≡ all_texts_plain (map (text_of m) (take n (x.first ∷ x.second ∷ x.third ∷ [])))
-        go zero h p = absurd (h refl)
-        go (suc n) h p = rw p
+  plain_append : (xs : List Span) (x : Span) → plain (xs ++ (x ∷ [])) ≡ (plain xs && all_plain (text_of m x))
+  unfolding all_texts_plain
+  plain_append [] x = and-true (all_plain (text_of m x))
+  plain_append (y ∷ xs) x = rw (plain_append xs x) (sym (and_assoc (all_plain (text_of m y)) (plain xs) (all_plain (text_of m x))))
 
-    module _ (yes : t ≡ true) where
-      one : all_plain (text_of m x.first) ≡ true
-      one = rw (← fst) (sym is ∙ yes)
+  out_at : (d : Span) (xs : List Span) (i : ℕ) → i < length xs → all_plain (text_of m (get_or xs i d)) ≡ false → plain xs ≡ false
+  unfolding all_texts_plain
+  out_at d [] i l e = absurd (omega arith)
+  out_at d (x ∷ xs) zero l e = rw e
+  out_at d (x ∷ xs) (suc i) l e = rw (out_at d xs i (omega arith) e) (and-false (all_plain (text_of m x)))
 
-      pub plain_1 : x.count ≡ 1 → true ≡ all_texts_plain (texts_by m x)
-      unfolding all_texts_plain texts_by spans_of
-      plain_1 e = rw (e, one)
+  module _ (xs : List Span) (i : ℕ) (d : Span) (l : i < length xs) (a : List ℕ) (at : a ≡ text_of m (get_or xs i d)) (t : Bool) (is : t ≡ all_plain a) where
+    pub plain_more : t ≡ true → plain (take i xs) ≡ true → plain (take (i + 1) xs) ≡ true
+    plain_more e h = rw (take_more xs i d l, plain_append (take i xs) (get_or xs i d), h, ← at, ← is, e)
 
-      module _ (n1 : x.count ≡ 1 → ⊥) (b : List ℕ) (snd : b ≡ text_of m x.second) (u : Bool) (be : u ≡ all_plain b) where
-        pub plain_second : u ≡ false → false ≡ all_texts_plain (texts_by m x)
-        unfolding all_texts_plain texts_by spans_of
-        plain_second e = go x.count n0 n1 one (rw (← snd) (sym be ∙ e))
-          where
-            go : (n : ℕ) → (n ≡ 0 → ⊥) → (n ≡ 1 → ⊥) → all_plain (text_of m x.first) ≡ true → all_plain (text_of m x.second) ≡ false
-                → false ≡ all_texts_plain (map (text_of m) (take n (x.first ∷ x.second ∷ x.third ∷ [])))
-            go zero h k o p = absurd (h refl)
-            go (suc zero) h k o p = absurd (k refl)
-            go (suc (suc n)) h k o p = rw (o, p)
+    pub plain_out : t ≡ false → false ≡ plain xs
+    plain_out e = sym (out_at d xs i l (rw (← at) (sym is ∙ e)))
 
-        module _ (right : u ≡ true) where
-          two : all_plain (text_of m x.second) ≡ true
-          two = rw (← snd) (sym be ∙ right)
-
-          pub plain_2 : x.count ≡ 2 → true ≡ all_texts_plain (texts_by m x)
-          unfolding all_texts_plain texts_by spans_of
-          plain_2 e = rw (e, one, two)
-
-          pub plain_3 : (x.count ≡ 2 → ⊥) → (c : List ℕ) → c ≡ text_of m x.third → (w : Bool) → w ≡ all_plain c → w ≡ all_texts_plain (texts_by m x)
-          unfolding all_texts_plain texts_by spans_of
-          plain_3 n2 c ct w p =
-              rw (take_all x.count (x.first ∷ x.second ∷ x.third ∷ []) (omega arith), one, two, ← ct) (p ∙ sym (and-true (all_plain c)))
-
-pub ruleset plains = (plain_0, plain_first, plain_1, plain_second, plain_2, plain_3)
-
--- ---- the attributes, whose rtpmap the code has as a
-few_texts : (m : List ℕ) (x : Texts) → length (texts_by m x) ≤ 3
-unfolding texts_by spans_of
-few_texts m x = go x.count
-  where
-    go : (n : ℕ) → length (map (text_of m) (take n (x.first ∷ x.second ∷ x.third ∷ []))) ≤ 3
-    go zero = omega arith
-    go (suc zero) = omega arith
-    go (suc (suc zero)) = omega arith
-    go (suc (suc (suc n))) = rw (take-nil n) (omega arith)
-
+-- ---- the attributes, whose rtpmap the code has as a, and the fmtp texts at xs
 module _ (m : List ℕ) (s : Places) (a : List ℕ) (at : a ≡ text_of m s.rtpmap) (t : Bool) (is : t ≡ all_plain a) where
   pub rtpmap_none : t ≡ false → false ≡ right_attributes (stream_by m s)
   unfolding right_attributes stream_by
   rtpmap_none e = let x : all_plain (text_of m s.rtpmap) ≡ false = rw (← at) (sym is ∙ e) in rw x
 
-  module _ (yes : t ≡ true) (u : Bool) (be : u ≡ all_texts_plain (texts_by m s.fmtp)) where
+  module _ (yes : t ≡ true) (xs : List Span) (places : xs ≡ spans_of s.fmtp) (few : length xs ≤ 3) (u : Bool) (be : u ≡ all_texts_plain (map (text_of m) xs)) where
+    texts_are : map (text_of m) xs ≡ texts_by m s.fmtp
+    unfolding texts_by
+    texts_are = rw places
+
+    few_texts : length (texts_by m s.fmtp) ≤ 3
+    few_texts = rw (← texts_are, length-map xs (text_of m)) few
+
     rtpmap_plain : all_plain (text_of m s.rtpmap) ≡ true
     rtpmap_plain = rw (← at) (sym is ∙ yes)
 
     pub fmtp_none : u ≡ false → false ≡ right_attributes (stream_by m s)
     unfolding right_attributes stream_by
     fmtp_none e =
-        let x : all_texts_plain (texts_by m s.fmtp) ≡ false = sym be ∙ e in
-        rw (rtpmap_plain, le-leb (length (texts_by m s.fmtp)) 3 (few_texts m s.fmtp), x)
+        let x : all_texts_plain (texts_by m s.fmtp) ≡ false = rw (← texts_are) (sym be ∙ e) in
+        rw (rtpmap_plain, le-leb (length (texts_by m s.fmtp)) 3 few_texts, x)
 
     pub attributes_are : u ≡ true → Fits w8 s.ptime → (w : Bool) → w ≡ attributes_fit (stream_by m s) → w ≡ right_attributes (stream_by m s)
     unfolding right_attributes stream_by
     attributes_are e h w p =
-        let x : all_texts_plain (texts_by m s.fmtp) ≡ true = sym be ∙ e in
-        rw (rtpmap_plain, le-leb (length (texts_by m s.fmtp)) 3 (few_texts m s.fmtp), x, le-leb s.ptime 255 (omega arith)) p
+        let x : all_texts_plain (texts_by m s.fmtp) ≡ true = rw (← texts_are) (sym be ∙ e) in
+        rw (rtpmap_plain, le-leb (length (texts_by m s.fmtp)) 3 few_texts, x, le-leb s.ptime 255 (omega arith)) p
 
 pub ruleset attributes = (rtpmap_none, fmtp_none, attributes_are)
 

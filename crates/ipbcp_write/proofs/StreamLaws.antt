@@ -1,13 +1,14 @@
 -- The media line and its attributes: each line is appended as its parts are, one after the other.
 -- Assumes nothing.
-use Prim.Native.Nat.{ℕ}
+use Prim.Native.Nat.{ℕ, ◌+◌, ◌≤◌, ◌<◌}
 use mathlib.Core.Path.{◌≡◌}
 use mathlib.Core.List.{List, [], ◌∷◌, ◌++◌, map, append_assoc}
-use lib.ListN.{length}
+use lib.ListN.{length, take, get_or}
 use lib.Seq.{take_all}
-use native.Mathlib.Omega.{arith}
+use Rattle.std.proofs.lemmas.List.{take_more, map-append}
 use borrow.Author.Tests.{eq-eqb, ne_eqb}
 use Rattle.octets.specs.Append.{Appends, number_text}
+use Rattle.octets.specs.declared.Span.{Span}
 use Rattle.octets.specs.Spans.{text_of}
 use Rattle.octets.proofs.AppendLaws.{append_nil, append_then}
 use Rattle.sdp.specs.Written.{line_text, lines_text}
@@ -17,11 +18,6 @@ use Rattle.media.specs.Stream.{media_text, attribute_text, rtpmap_text, fmtp_tex
 use Rattle.media.specs.Meaning.{spans_of, texts_by, stream_by}
 use Rattle.ipbcp.specs.Writing.{ptime_lines, stream_lines, attribute_lines}
 use Rattle.ipbcp_write.proofs.LineLaws.{lines_one, lines_append}
-
--- two lines
-two_lines : (t u l f g : List ℕ) (at a r : ℕ) → Appends f a (line_text u) r g → Appends l at (line_text t) a f → Appends l at (lines_text (t ∷ u ∷ [])) r g
-unfolding lines_text
-two_lines t u l f g at a r q p = append_then l f g (line_text t) _ at a r (rw lines_one q) p
 
 -- ---- the media line; u is its media or transport, and n its port or payload
 module _ (t u : List ℕ) (n : ℕ) (l f g h : List ℕ) (at a b r : ℕ) (e : t ≡ u) where
@@ -66,30 +62,24 @@ pub fmtp_then : (t l f g : List ℕ) (at a r : ℕ) → Appends f a (line_text t
 unfolding line_text fmtp_text attribute_text
 fmtp_then t l f g at a r y x = append_then l f g (97 ∷ 61 ∷ 102 ∷ 109 ∷ 116 ∷ 112 ∷ 58 ∷ []) (line_text t) at a r y x
 
-module _ (m : List ℕ) (x : Texts) (l : List ℕ) (at : ℕ) where
-  pub fmtps_0 : x.count ≡ 0 → Appends l at (lines_text (map fmtp_text (texts_by m x))) at l
-  unfolding texts_by spans_of lines_text
-  fmtps_0 n = rw n (append_nil l at)
+module _ (m : List ℕ) (xs : List Span) (l : List ℕ) (at : ℕ) where
+  -- the lines of the first i texts
+  abbrev pub Fmtps : (i k : ℕ) (f : List ℕ) → Type 0
+  Fmtps i k f = Appends l at (lines_text (map fmtp_text (map (text_of m) (take i xs)))) k f
 
-  -- t, u and v are the first, second and third text
-  module _ (t f : List ℕ) (a : ℕ) (e : t ≡ text_of m x.first) (p : Appends l at (line_text (fmtp_text t)) a f) where
-    pub fmtps_1 : x.count ≡ 1 → Appends l at (lines_text (map fmtp_text (texts_by m x))) a f
-    unfolding texts_by spans_of
-    fmtps_1 n = rw (n, ← e, lines_one) p
+  pub fmtps_none : Fmtps 0 at l
+  unfolding lines_text
+  fmtps_none = append_nil l at
 
-    module _ (u g : List ℕ) (b : ℕ) (o : u ≡ text_of m x.second) (q : Appends f a (line_text (fmtp_text u)) b g) where
-      pub fmtps_2 : x.count ≡ 2 → Appends l at (lines_text (map fmtp_text (texts_by m x))) b g
-      unfolding texts_by spans_of
-      fmtps_2 n = rw (n, ← e, ← o) (two_lines (fmtp_text t) (fmtp_text u) l f g at a b q p)
+  -- t is the text at i
+  pub fmtps_more : (i k r : ℕ) (f g t : List ℕ) (d : Span) → i < length xs → t ≡ text_of m (get_or xs i d) → Appends f k (line_text (fmtp_text t)) r g → Fmtps i k f → Fmtps (i + 1) r g
+  fmtps_more i k r f g t d h e q p =
+      rw (take_more xs i d h, map-append (text_of m) (take i xs) (get_or xs i d ∷ []), map-append fmtp_text (map (text_of m) (take i xs)) (text_of m (get_or xs i d) ∷ []), lines_append, lines_one, ← e)
+      (append_then l f g _ _ at k r q p)
 
-      pub fmtps_3 : (v h : List ℕ) (r : ℕ) → (x.count ≡ 0 → ⊥) → (x.count ≡ 1 → ⊥) → (x.count ≡ 2 → ⊥) → v ≡ text_of m x.third
-          → Appends g b (line_text (fmtp_text v)) r h → Appends l at (lines_text (map fmtp_text (texts_by m x))) r h
-      unfolding texts_by spans_of lines_text
-      fmtps_3 v h r n₀ n₁ n₂ i w =
-          rw (take_all x.count (x.first ∷ x.second ∷ x.third ∷ []) (omega arith), ← e, ← o, ← i)
-          (append_then l f h (line_text (fmtp_text t)) _ at a r (two_lines (fmtp_text u) (fmtp_text v) f g h a b r w q) p)
-
-pub ruleset fmtps = (fmtps_0, fmtps_1, fmtps_2, fmtps_3)
+  pub fmtps_all : (x : Texts) (i k : ℕ) (f : List ℕ) → xs ≡ spans_of x → length xs ≤ i → Fmtps i k f → Appends l at (lines_text (map fmtp_text (texts_by m x))) k f
+  unfolding texts_by
+  fmtps_all x i k f e h p = rw (← e) (rw (take_all i xs h) at p)
 
 -- ---- ptime
 module _ (n : ℕ) (l : List ℕ) (at : ℕ) where

@@ -5,13 +5,14 @@ use mathlib.Core.Path.{◌≡◌, refl, sym, ◌∙◌}
 use mathlib.Core.List.{List, [], ◌∷◌, ◌++◌}
 use mathlib.Core.Bool.{Bool, true, false, ◌&&◌, cond, and-eq-true_iff}
 use mathlib.Core.Option.{none, some, map}
-use lib.ListN.{length, take, drop}
+use lib.ListN.{length, take}
 use lib.Seq.{take_all}
 use lib.Dec.{leb}
 use native.Mathlib.Omega.{arith}
 use borrow.Author.Tests.{le-leb, lt-leb}
-use Rattle.octets.specs.declared.Put.{Put}
-use Rattle.octets.specs.declared.Put.TheVariants.{Refused}
+use Rattle.std.specs.Prelude.{Result, Err}
+use Rattle.octets.specs.declared.Refusal.{Refusal}
+use Rattle.octets.specs.declared.Refusal.TheVariants.{OutOfRange}
 use Rattle.octets.specs.Append.{next_of, Appends}
 use Rattle.octets.specs.Puts.{bounded, Puts}
 use Rattle.octets.proofs.AppendLaws.{append_then}
@@ -106,7 +107,7 @@ module _ (own : Address) (m : List ℕ) where
 
   -- t and v are what the code found of the address and of the body
   module _ (b : Body) (l : List ℕ) (t : Bool) (is : t ≡ is_unicast own) where
-    pub writes_no_address : t ≡ false → Puts (message_octets_in own (content_in m b)) l (Refused 5) l
+    pub writes_no_address : t ≡ false → Puts (message_octets_in own (content_in m b)) l (Err OutOfRange) l
     writes_no_address e =
         let x : (is_unicast own && writable_body m b) ≡ false = let y : is_unicast own ≡ false = sym is ∙ e in rw y in
         rw (body_wrong b x) (puts_none l)
@@ -115,28 +116,29 @@ module _ (own : Address) (m : List ℕ) where
       unicast : is_unicast own ≡ true
       unicast = sym is ∙ yes
 
-      pub writes_none : v ≡ false → Puts (message_octets_in own (content_in m b)) l (Refused 5) l
+      pub writes_none : v ≡ false → Puts (message_octets_in own (content_in m b)) l (Err OutOfRange) l
       writes_none e =
           let x : (is_unicast own && writable_body m b) ≡ false = let y : writable_body m b ≡ false = sym be ∙ e in rw (unicast, y) in
           rw (body_wrong b x) (puts_none l)
 
-      pub writes_right : v ≡ true → (r : Put) (f : List ℕ) → Puts (bounded most_written (message_text own (content_by m b))) l r f → Puts (message_octets_in own (content_in m b)) l r f
+      pub writes_right : v ≡ true → (r : Result ℕ Refusal) (f : List ℕ) → Puts (bounded most_written (message_text own (content_by m b))) l r f → Puts (message_octets_in own (content_in m b)) l r f
       writes_right e r f p = rw (body_right b unicast (sym be ∙ e)) p
 
 pub ruleset writing = (writes_no_address, writes_none, writes_right)
 
 -- ---- the scratch: n octets of it hold the text t, or what of it they can
 module _ (t z g l : List ℕ) (n : ℕ) (p : Appends z 0 t n g) (size : length z ≡ most_written + 1) where
-  pub scratch_long : most_written < n → Puts (bounded most_written t) l (Refused 5) l
+  pub scratch_long : most_written < n → Puts (bounded most_written t) l (Err OutOfRange) l
   unfolding bounded next_of
   scratch_long h = rw (lt-leb (length t) most_written (let e : n ≡ 0 + min (length z - 0) (length t) = p.next in omega arith)) (puts_none l)
 
-  pub scratch_short : n ≤ most_written → (r : Put) (f : List ℕ) → Puts (some (take (n - 0) (drop 0 g))) l r f → Puts (bounded most_written t) l r f
+  pub scratch_short : n ≤ most_written → (x : List ℕ) → x ≡ g → (r : Result ℕ Refusal) (f : List ℕ) → Puts (some (take n x)) l r f → Puts (bounded most_written t) l r f
   unfolding bounded next_of
-  scratch_short h r f q =
+  scratch_short h x is r f q =
       let e : n ≡ 0 + min (length z - 0) (length t) = p.next in
       let few : length t ≤ most_written = omega arith in
-      let x : take (n - 0) (drop 0 g) ≡ t = scratch_text z g t n p (most_written + 1) size ∙ take_all (most_written + 1) t (omega arith) in
-      rw (le-leb (length t) most_written few) (rw x at q)
+      let o : n - 0 ≡ n = omega arith in
+      let y : take (n - 0) g ≡ t = scratch_text z g t n p (most_written + 1) size ∙ take_all (most_written + 1) t (omega arith) in
+      rw (le-leb (length t) most_written few) (rw (is, ← o, y) at q)
 
 pub ruleset scratching = (scratch_long, scratch_short)

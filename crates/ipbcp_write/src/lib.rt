@@ -6,7 +6,7 @@ mod ranges;
 mod stream;
 
 ghost use Rattle.std.specs.Prelude.{◌≡◌};
-ghost use Rattle.octets.specs.Append.{Appends};
+ghost use Rattle.octets.specs.Append.{Pushes};
 ghost use Rattle.octets.specs.Puts.{bounded, Puts};
 ghost use Rattle.sdp.specs.Written.{lines_text};
 ghost use Rattle.ipbcp.specs.Writing.{media_lines, message_text, message_octets_in, most_written};
@@ -15,8 +15,8 @@ ghost use Rattle.ipbcp_write.specs.Private.{content_by, body_type};
 
 use address::Address;
 use ipbcp::{Body, MessageType};
-use octets::Put;
-use octets::append::put_front;
+use octets::Refusal;
+use octets::append::{Cursor, put_front};
 
 // The longest message that is written.
 pub const MOST_WRITTEN: usize = 447;
@@ -37,40 +37,47 @@ fn kind_of(body: Body) -> MessageType
 }
 
 // Appends the media line and its attributes, of a message that has them.
-fn push_body(body: Body, source: &[u8], out: &mut [u8], at: usize) -> usize
-    ensures { Appends out.old at (lines_text (media_lines (content_by source.now body))) result out.new }
+fn push_body(body: Body, source: &[u8], out: &mut Cursor<'_>)
+    ensures { Pushes out.old out.new (lines_text (media_lines (content_by source.now body))) }
 {
     match body {
-        Body::Request(s) => stream::push_stream(s, source, out, at),
-        Body::Accepted(s) => stream::push_stream(s, source, out, at),
-        Body::Confused => at,
-        Body::Rejected => at,
+        Body::Request(s) => stream::push_stream(s, source, out),
+        Body::Accepted(s) => stream::push_stream(s, source, out),
+        Body::Confused => {}
+        Body::Rejected => {}
     }
 }
 
 // Appends a whole message.
-fn push_message(body: Body, own: Address, source: &[u8], out: &mut [u8], at: usize) -> usize
-    ensures { Appends out.old at (message_text own (content_by source.now body)) result out.new }
+fn push_message(body: Body, own: Address, source: &[u8], out: &mut Cursor<'_>)
+    ensures { Pushes out.old out.new (message_text own (content_by source.now body)) }
 {
-    let a = lines::push_opening(own, out, at);
-    let b = lines::push_ipbcp(kind_of(body), out, a);
-    push_body(body, source, out, b)
+    lines::push_opening(own, out);
+    lines::push_ipbcp(kind_of(body), out);
+    push_body(body, source, out);
 }
 
 // Writes a message whose fields are in range, if it is not too long.
-fn write_right(body: Body, own: Address, source: &[u8], out: &mut [u8]) -> Put
+fn write_right(body: Body, own: Address, source: &[u8], out: &mut [u8]) -> Result<usize, Refusal>
     ensures { Puts (bounded most_written (message_text own (content_by source.now body))) out.old result out.new }
 {
     let mut scratch = [0u8; SCRATCH];
-    let n = push_message(body, own, source, &mut scratch, 0);
+    let mut written = Cursor::new(&mut scratch);
+    push_message(body, own, source, &mut written);
+    let n = written.at;
     if MOST_WRITTEN < n {
-        return Put::Refused(5);
+        return Err(Refusal::OutOfRange);
     }
-    put_front(&scratch[0..n], out)
+    put_front(&scratch[..n], out)
 }
 
 // Writes the message with the own address in `o=` and `c=`. The texts of a stream are places in source.
-pub fn write_message(body: Body, own: Address, source: &[u8], out: &mut [u8]) -> Put
+pub fn write_message(
+    body: Body,
+    own: Address,
+    source: &[u8],
+    out: &mut [u8],
+) -> Result<usize, Refusal>
     ensures { Puts (message_octets_in own (content_in source.now body)) out.old result out.new }
 {
     if address::is_unicast(own) {
@@ -78,5 +85,5 @@ pub fn write_message(body: Body, own: Address, source: &[u8], out: &mut [u8]) ->
             return write_right(body, own, source, out);
         }
     }
-    Put::Refused(5)
+    Err(Refusal::OutOfRange)
 }

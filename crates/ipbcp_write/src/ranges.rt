@@ -1,13 +1,15 @@
 // Whether the fields of a message are in range.
-ghost use Rattle.std.specs.Prelude.{◌≡◌};
-ghost use Rattle.media.specs.Meaning.{texts_by, stream_by};
+ghost use Rattle.std.specs.Prelude.{◌≡◌, map};
+ghost use Rattle.octets.specs.Spans.{text_of};
+ghost use Rattle.media.specs.Meaning.{stream_by};
 ghost use Rattle.ipbcp.specs.Writing.{is_token, all_texts_plain, right_media, right_attributes};
 ghost use Rattle.ipbcp_write.specs.Private.{writable_stream, writable_body};
 
 use ipbcp::Body;
+use media::Stream;
 use media::inside::stream_inside;
 use media::limit::attributes_fit;
-use media::{Stream, Texts};
+use octets::Span;
 use octets::parts::find_from;
 use octets::spans::text;
 use sdp::all_plain;
@@ -30,54 +32,35 @@ fn is_token(t: &[u8]) -> bool
 fn right_media(s: Stream, source: &[u8]) -> bool
     ensures { result ≡ right_media (stream_by source.now s) }
 {
-    let media = s.media;
-    let transport = s.transport;
-    let port = s.port;
-    let payload = s.payload;
-    if is_token(text(source, media)) {
-        if port < 1 {
+    if is_token(text(source, s.media)) {
+        if s.port < 1 {
             return false;
         }
-        if is_token(text(source, transport)) {
-            return payload <= 127;
+        if is_token(text(source, s.transport)) {
+            return s.payload <= 127;
         }
     }
     false
 }
 
-// The texts may be part of lines.
-fn are_plain(x: Texts, source: &[u8]) -> bool
-    ensures { result ≡ all_texts_plain (texts_by source.now x) }
+// The texts at these places may be part of lines.
+fn are_plain(spans: &[Span], source: &[u8]) -> bool
+    ensures { result ≡ all_texts_plain (map (text_of source.now) spans.now) }
 {
-    let n = x.count;
-    let first = x.first;
-    let second = x.second;
-    let third = x.third;
-    if n == 0 {
-        return true;
-    }
-    if all_plain(text(source, first)) {
-        if n == 1 {
-            return true;
-        }
-        if all_plain(text(source, second)) {
-            if n == 2 {
-                return true;
-            }
-            return all_plain(text(source, third));
+    for sp in spans {
+        if !all_plain(text(source, *sp)) {
+            return false;
         }
     }
-    false
+    true
 }
 
 // The fields of the attributes are in range.
 fn right_attributes(s: Stream, source: &[u8]) -> bool
     ensures { result ≡ right_attributes (stream_by source.now s) }
 {
-    let rtpmap = s.rtpmap;
-    let fmtp = s.fmtp;
-    if all_plain(text(source, rtpmap)) {
-        if are_plain(fmtp, source) {
+    if all_plain(text(source, s.rtpmap)) {
+        if are_plain(s.fmtp.as_slice(), source) {
             return attributes_fit(s, source);
         }
     }

@@ -10,16 +10,16 @@ use Rattle.ipbcp_write.proofs.push_body.Goals as goal
 
 pub returns-in-Request : goal.returns-in-Request
 unfolding content_by media_lines lines_text
-returns-in-Request c = search (body_of, append_nil, rules)
+returns-in-Request c = record { lent = search rules; appends = search (body_of, append_nil, rules) }
 
 pub returns-in-Accepted : goal.returns-in-Accepted
 unfolding content_by media_lines lines_text
-returns-in-Accepted c = search (body_of, append_nil, rules)
+returns-in-Accepted c = record { lent = search rules; appends = search (body_of, append_nil, rules) }
 
 pub returns-in-Confused : goal.returns-in-Confused
 unfolding content_by media_lines lines_text
-returns-in-Confused c = search (body_of, append_nil, rules)
+returns-in-Confused c = record { lent = search rules; appends = search (body_of, append_nil, rules) }
 
 pub returns-in-Rejected : goal.returns-in-Rejected
 unfolding content_by media_lines lines_text
-returns-in-Rejected c = search (body_of, append_nil, rules)
+returns-in-Rejected c = record { lent = search rules; appends = search (body_of, append_nil, rules) }

@@ -5,4 +5,4 @@ use Rattle.ipbcp_write.proofs.WriteLaws.{message_then}
 use Rattle.ipbcp_write.proofs.push_message.Goals as goal
 
 pub returns : goal.returns
-returns c = search (message_then, rules)
+returns c = record { lent = search rules; appends = search (message_then, rules) }

@@ -5,4 +5,4 @@ use Rattle.ipbcp_write.proofs.LineLaws.{connection_then}
 use Rattle.ipbcp_write.proofs.lines.push_connection.Goals as goal
 
 pub returns : goal.returns
-returns c = search (connection_then, rules)
+returns c = record { lent = search rules; appends = search (connection_then, rules) }

@@ -5,4 +5,4 @@ use Rattle.ipbcp_write.proofs.LineLaws.{opening_then}
 use Rattle.ipbcp_write.proofs.lines.push_opening.Goals as goal
 
 pub returns : goal.returns
-returns c = search (opening_then, rules)
+returns c = record { lent = search rules; appends = search (opening_then, rules) }

@@ -5,4 +5,4 @@ use Rattle.ipbcp_write.proofs.LineLaws.{origin_then}
 use Rattle.ipbcp_write.proofs.lines.push_origin.Goals as goal
 
 pub returns : goal.returns
-returns c = search (origin_then, rules)
+returns c = record { lent = search rules; appends = search (origin_then, rules) }

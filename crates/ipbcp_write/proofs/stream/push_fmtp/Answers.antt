@@ -5,4 +5,4 @@ use Rattle.ipbcp_write.proofs.StreamLaws.{fmtp_then}
 use Rattle.ipbcp_write.proofs.stream.push_fmtp.Goals as goal
 
 pub returns : goal.returns
-returns c = search (fmtp_then, rules)
+returns c = record { lent = search rules; appends = search (fmtp_then, rules) }

@@ -5,4 +5,4 @@ use Rattle.ipbcp_write.proofs.StreamLaws.{media_then}
 use Rattle.ipbcp_write.proofs.stream.push_media.Goals as goal
 
 pub returns : goal.returns
-returns c = search (media_then, rules)
+returns c = record { lent = search rules; appends = search (media_then, rules) }

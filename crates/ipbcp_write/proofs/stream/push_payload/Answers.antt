@@ -5,4 +5,4 @@ use Rattle.ipbcp_write.proofs.StreamLaws.{payload_then}
 use Rattle.ipbcp_write.proofs.stream.push_payload.Goals as goal
 
 pub returns : goal.returns
-returns c = search (payload_then, rules)
+returns c = record { lent = search rules; appends = search (payload_then, rules) }

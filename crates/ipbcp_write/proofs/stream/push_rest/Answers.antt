@@ -7,4 +7,4 @@ use Rattle.ipbcp_write.proofs.stream.push_rest.Goals as goal
 
 pub returns : goal.returns
 unfolding line_text
-returns c = search (append_then, rules)
+returns c = record { lent = search rules; appends = search (append_then, rules) }

@@ -5,4 +5,4 @@ use Rattle.ipbcp_write.proofs.StreamLaws.{stream_then}
 use Rattle.ipbcp_write.proofs.stream.push_stream.Goals as goal
 
 pub returns : goal.returns
-returns c = search (stream_then, rules)
+returns c = record { lent = search rules; appends = search (stream_then, rules) }

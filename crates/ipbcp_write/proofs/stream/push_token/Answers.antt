@@ -5,4 +5,4 @@ use Rattle.octets.proofs.AppendLaws.{append_then}
 use Rattle.ipbcp_write.proofs.stream.push_token.Goals as goal
 
 pub returns : goal.returns
-returns c = search (append_then, rules)
+returns c = record { lent = search rules; appends = search (append_then, rules) }

@@ -1,8 +1,8 @@
--- `lines::push_family` meets its contract: by the two families.
+-- `lines::host_start` meets its contract: the words of the families are those of the definition.
 -- Assumes nothing.
 use borrow.Author.Rules.{rules}
 use Rattle.ipbcp_write.proofs.LineLaws.{family_four, family_six}
-use Rattle.ipbcp_write.proofs.lines.push_family.Goals as goal
+use Rattle.ipbcp_write.proofs.lines.host_start.Goals as goal
 
 pub returns-in-V4 : goal.returns-in-V4
 returns-in-V4 c = search (family_four, family_six, rules)
