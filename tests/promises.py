@@ -45,7 +45,7 @@ def functions_in(path):
     for found in re.finditer(r'(?m)^( *)pub (?:extern "C" )?fn (\w+)', text):
         owner = "" if module == "lib" else module + "::"
         if found.group(1):
-            owner = re.findall(r"(?m)^impl (\w+)", text[:found.start()])[-1] + "::"
+            owner = re.findall(r"(?m)^impl(?:<[^>]*>)? (\w+)", text[:found.start()])[-1] + "::"
         # a clause may have a name, as in `ensures emptied { .. }`
         rest = re.sub(r"\b(requires|ensures) \w+ \{", r"\1 {", text[found.end():])
         yield owner + found.group(2), re.split(r"(?<!ensures )(?<!requires )\{", rest)[0]

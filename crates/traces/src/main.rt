@@ -5,7 +5,6 @@
 ghost use Rattle.std.specs.Prelude.{◌≤◌, IfSome, length};
 
 use octets::spans::up_to;
-use octets::words::equals;
 use std::env::FillError;
 use std::fs;
 use std::io::{Read, Write};
@@ -16,10 +15,20 @@ use trace_run::MOST_DETAIL;
 // How many octets are read at once, and how many may wait to be written.
 const BUFFER: usize = 65536;
 
+// How files are printed and read.
 #[derive(Clone, Copy)]
 struct Manner {
     detailed: bool,
     slow: bool,
+}
+
+// What `trace_run::run` is lent.
+#[derive(Drop)]
+struct Buffers<'a> {
+    part: &'a mut [u8],
+    line: &'a mut [u8],
+    room: &'a mut [u8],
+    out: &'a mut [u8],
 }
 
 // One trace.
@@ -28,28 +37,20 @@ fn run_trace<R: Read, W: Write, E: Write>(
     to: &mut W,
     errors: &mut E,
     manner: Manner,
-    part: &mut [u8],
-    line: &mut [u8],
-    room: &mut [u8],
-    out: &mut [u8],
+    buffers: &mut Buffers<'_>,
 ) {
-    if part.len() == 0 {
-        return;
-    }
-    if manner.slow {
-        trace_run::run(
-            input,
-            to,
-            errors,
-            manner.detailed,
-            &mut part[0..1],
-            line,
-            room,
-            out,
-        );
-        return;
-    }
-    trace_run::run(input, to, errors, manner.detailed, part, line, room, out);
+    let at_once = if manner.slow { 1 } else { BUFFER };
+    let n = at_once.min(buffers.part.len());
+    trace_run::run(
+        input,
+        to,
+        errors,
+        manner.detailed,
+        &mut buffers.part[..n],
+        buffers.line,
+        buffers.room,
+        buffers.out,
+    );
 }
 
 // The file of that name, if it can be opened. std takes a name as text, so a name that is not UTF-8 is no file's.
@@ -79,14 +80,10 @@ fn run_file<F: Files, W: Write, E: Write>(
     errors: &mut E,
     n: usize,
     manner: Manner,
-    part: &mut [u8],
-    line: &mut [u8],
-    room: &mut [u8],
-    out: &mut [u8],
+    buffers: &mut Buffers<'_>,
 ) {
-    if let Some(file) = begin_file(files, to, up_to(line, n)) {
-        let mut input = file;
-        run_trace(&mut input, to, errors, manner, part, line, room, out);
+    if let Some(mut file) = begin_file(files, to, up_to(buffers.line, n)) {
+        run_trace(&mut file, to, errors, manner, buffers);
     }
 }
 
@@ -97,27 +94,29 @@ fn run_word<F: Files, W: Write, E: Write>(
     errors: &mut E,
     n: usize,
     manner: Manner,
-    part: &mut [u8],
-    line: &mut [u8],
-    room: &mut [u8],
-    out: &mut [u8],
+    buffers: &mut Buffers<'_>,
 ) -> Manner {
-    let mut m = manner;
-    let word = up_to(line, n);
-    if equals(b"plain", word) {
-        m.detailed = false;
-        return m;
+    let word = up_to(buffers.line, n);
+    if word == b"plain" {
+        return Manner {
+            detailed: false,
+            ..manner
+        };
     }
-    if equals(b"detailed", word) {
-        m.detailed = true;
-        return m;
+    if word == b"detailed" {
+        return Manner {
+            detailed: true,
+            ..manner
+        };
     }
-    if equals(b"octets", word) {
-        m.slow = true;
-        return m;
+    if word == b"octets" {
+        return Manner {
+            slow: true,
+            ..manner
+        };
     }
-    run_file(files, to, errors, n, m, part, line, room, out);
-    m
+    run_file(files, to, errors, n, manner, buffers);
+    manner
 }
 
 // Puts argument i at the front of word, and answers its length, or none past the last argument. One that is longer than word counts
@@ -137,22 +136,17 @@ fn run_all<H: Files + Env, W: Write, E: Write>(
     rt: &H,
     to: &mut W,
     errors: &mut E,
-    part: &mut [u8],
-    line: &mut [u8],
-    room: &mut [u8],
-    out: &mut [u8],
+    buffers: &mut Buffers<'_>,
 ) {
     let mut manner = Manner {
         detailed: false,
         slow: false,
     };
     for i in 1..usize::MAX {
-        match read_word(rt, i, line) {
-            Some(n) => {
-                manner = run_word(rt, to, errors, n, manner, part, line, room, out);
-            }
-            None => break,
-        }
+        let Some(n) = read_word(rt, i, buffers.line) else {
+            break;
+        };
+        manner = run_word(rt, to, errors, n, manner, buffers);
     }
 }
 
@@ -162,13 +156,16 @@ fn main(rt: HostRuntime) {
     let mut line = [0u8; MOST_DETAIL];
     let mut room = [0u8; USUAL_ROOM];
     let mut out = [0u8; BUFFER];
+    let mut buffers = Buffers {
+        part: &mut part,
+        line: &mut line,
+        room: &mut room,
+        out: &mut out,
+    };
     run_all(
         &rt,
         &mut rt.stdout(),
         &mut rt.stderr(),
-        &mut part,
-        &mut line,
-        &mut room,
-        &mut out,
+        &mut buffers,
     );
 }
