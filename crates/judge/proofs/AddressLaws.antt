@@ -1,13 +1,14 @@
--- Laws of two addresses that the code has matched: a test of them is the test of what they are.
+-- The derived `==` of addresses is the definition's.
 -- Assumes nothing.
-use mathlib.Core.Path.{◌≡◌}
-use mathlib.Core.Bool.{Bool}
+use mathlib.Core.Path.{◌≡◌, refl}
+use Rattle.address.specs.contracts.AddressPartialEq.TheImpl as derived
 use Rattle.address.specs.declared.Address.{Address}
-use Rattle.bearer.specs.Judging.{same_family, same_address}
+use Rattle.address.specs.declared.Address.TheVariants.{V4, V6}
+use Rattle.bearer.specs.Judging.{same_address}
 
-module _ (a b c d : Address) (t : Bool) (p : a ≡ c) (q : b ≡ d) where
-  pub family_of : t ≡ same_family c d → t ≡ same_family a b
-  family_of r = rw (p, q) r
-
-  pub address_of_lem : t ≡ same_address c d → t ≡ same_address a b
-  address_of_lem r = rw (p, q) r
+pub equal_is : (a b : Address) → (derived.ghosts).eq a b ≡ same_address a b
+unfolding same_address
+equal_is (V4 m) (V4 n) = refl
+equal_is (V4 m) (V6 h l) = refl
+equal_is (V6 h l) (V4 n) = refl
+equal_is (V6 h l) (V6 i m) = refl

@@ -1,18 +1,19 @@
 -- Laws of commands: the two fixed words and the name fill the front of a Request's text, so each of its places has its text; and
 -- what suits the configuration fits the Request's fields.
 -- Assumes nothing.
-use Prim.Native.Nat.{ℕ, ◌+◌, ◌-◌, ◌%◌, ◌≤◌}
+use Prim.Native.Nat.{ℕ, ◌+◌, ◌-◌, ◌<◌, ◌≤◌}
 use mir.Syntax.{w8}
 use mir.Val.{Fits}
 use mathlib.Core.Path.{◌≡◌, refl, sym, ◌∙◌}
 use mathlib.Core.List.{List, ◌++◌}
-use mathlib.Core.Bool.{Bool, true, false, ◌&&◌, cond, and-eq-true_iff}
-use mathlib.Core.Option.{none, some, Option-elim}
+use mathlib.Core.Bool.{true, false, ◌&&◌, and-eq-true_iff}
+use mathlib.Core.Option.{some, Option-elim}
 use lib.ListN.{length, replicate, length-take, length-replicate}
 use lib.Seq.{take_at}
 use lib.Dec.{eqb, leb}
 use native.Mathlib.Omega.{arith}
 use borrow.Author.Tests.{le-leb, leb-true, eqb-true}
+use Rattle.std.specs.Prelude.{Some, None}
 use Rattle.octets.specs.Append.{put, next_of, Appends}
 use Rattle.octets.specs.Spans.{text_of}
 use Rattle.octets.proofs.AppendLaws.{append_more, append_room, length_appends}
@@ -22,10 +23,9 @@ use Rattle.media.specs.Meaning.{spans_of, texts_by, stream_by, all_in, stream_in
 use Rattle.configuration.specs.declared.Format.{Format}
 use Rattle.configuration.specs.declared.Format.TheVariants.{Payload, Named}
 use Rattle.configuration.specs.declared.Codec.{Codec as Place}
-use Rattle.configuration.specs.declared.FoundCodec.{FoundCodec}
 use Rattle.configuration.specs.declared.Config.{Config}
 use Rattle.configuration.specs.Configuration.{entry_in, suits, name_of, ptime_none_or_in_range, most_name}
-use Rattle.configuration.specs.Meaning.{format_by, codec_by, codecs_by, configuration_by, blank_codec, FoundAt}
+use Rattle.configuration.specs.Meaning.{format_by, codec_by, codecs_by, configuration_by, FoundAt}
 use Rattle.bearer.specs.declared.Request.{Request}
 use Rattle.bearer.specs.Judging.{audio, rtp_avp, offered, commanded}
 use Rattle.bearer.specs.Meaning.{most_offered, request_by}
@@ -95,16 +95,14 @@ module _ (k : Place) (p : ℕ) (s : suits (codec_by k) p ≡ true) where
   unfolding format_by suits
   payload_fixed n q = let e : eqb p n ≡ true = rw q at s in sym (eqb-true p n e)
 
-  pub payload_named : (n : ℕ) → k.format ≡ Named n → p % 256 ≡ p
+  pub payload_named : (n : ℕ) → k.format ≡ Named n → p < 256
   unfolding format_by suits
   payload_named n q =
       let e : (leb 96 p && leb p 127) ≡ true = rw q at s in
       omega (arith, leb-true p 127 ((and-eq-true_iff (leb 96 p) (leb p 127)).0 e).1)
 
-pub ruleset payloads = (payload_fixed, payload_named)
-
 -- ---- a packet time that is none or in range
-pub time_fits : (c : Config) (t : ℕ) → ptime_none_or_in_range (configuration_by c) t ≡ true → Fits w8 c.most → t % 256 ≡ t
+pub time_fits : (c : Config) (t : ℕ) → ptime_none_or_in_range (configuration_by c) t ≡ true → Fits w8 c.most → t < 256
 unfolding ptime_none_or_in_range configuration_by
 time_fits c t h most =
     by_bool (eqb t 0) _
@@ -112,47 +110,25 @@ time_fits c t h most =
     (λ e. let r : (leb c.least t && leb t c.most) ≡ true = rw e at h in
     omega (arith, leb-true t c.most ((and-eq-true_iff (leb c.least t) (leb t c.most)).0 r).1))
 
--- ---- the command, whose entry is e; u says whether its fields suit the configuration
-module _ (c : Config) (n p t : ℕ) (e : FoundCodec) (found : FoundAt c n e)
-    (u : Bool) (says : u ≡ (e.known && (suits (codec_by e.codec) p && ptime_none_or_in_range (configuration_by c) t))) where
-  entry_is : (v : Bool) → e.known ≡ v → entry_in (codecs_by c) n ≡ cond v (some (codec_by e.codec)) none
-  entry_is v a = rw a at (sym found.is)
-
-  all_suit : u ≡ true → (e.known ≡ true) × (suits (codec_by e.codec) p ≡ true) × (ptime_none_or_in_range (configuration_by c) t ≡ true)
-  all_suit h =
-      let (a, b) = (and-eq-true_iff e.known (suits (codec_by e.codec) p && ptime_none_or_in_range (configuration_by c) t)).0 (sym says ∙ h) in
-      let (d, f) = (and-eq-true_iff (suits (codec_by e.codec) p) (ptime_none_or_in_range (configuration_by c) t)).0 b in
-      (a, d, f)
-
-  pub command_suits : u ≡ true → suits (codec_by e.codec) p ≡ true
-  command_suits h = (all_suit h).1
-
-  pub command_in_range : u ≡ true → ptime_none_or_in_range (configuration_by c) t ≡ true
-  command_in_range h = (all_suit h).2
-
-  pub command_yes : u ≡ true → (v w : ℕ) → v ≡ p → w ≡ t → (q : Request) → Offers c.port (codec_by e.codec) v w q
-      → Commands (configuration_by c) n p t (record { suits = true; request = q })
+-- ---- the command that names entry n, payload p and packet time t; r is the entry that was found
+module _ (c : Config) (n p t : ℕ) where
+  pub command_unknown : FoundAt c n None → Commands (configuration_by c) n p t None
   unfolding commanded configuration_by Option-elim
-  command_yes h v w payload time q o =
-      let (a, b, d) = all_suit h in
-      let r : request_by q ≡ offered (configuration_by c) (codec_by e.codec) p t = rw (payload, time) at (o.is (configuration_by c) refl) in
-      record { is = rw (entry_is true a, b, d, r); unsuited = λ f. absurd (no f); inside = o.inside }
-    where
-      no : true ≡ false → ⊥
-      no f = let z : ◌≡◌ {A = ℕ} 0 1 = cc in omega arith
+  command_unknown f = record { is = rw (sym f.is); inside = tt }
 
-  -- the Request is then for the blank entry k
-  pub command_no : u ≡ false → (k : Place) → k ≡ blank_codec → (q : Request) → Offers c.port (codec_by k) 0 0 q
-      → Commands (configuration_by c) n p t (record { suits = false; request = q })
-  unfolding commanded configuration_by Option-elim format_by
-  command_no h k b q o =
-      record {
-        is =
-            by_bool e.known _
-            (λ a. let f : (suits (codec_by e.codec) p && ptime_none_or_in_range (configuration_by c) t) ≡ false = rw a at (sym says ∙ h) in rw (entry_is true a, f))
-            (λ a. rw (entry_is false a));
-        unsuited = λ f. o.is (configuration_by c) refl ∙ rw b;
-        inside = o.inside;
-      }
+  module _ (k : Place) (f : FoundAt c n (Some k)) where
+    found : entry_in (codecs_by c) n ≡ some (codec_by k)
+    found = sym f.is
 
-pub ruleset commands = (command_yes, command_no)
+    pub command_suits : suits (codec_by k) p ≡ true → ptime_none_or_in_range (configuration_by c) t ≡ true → (q : Request) → Offers c.port (codec_by k) p t q
+        → Commands (configuration_by c) n p t (Some q)
+    unfolding commanded configuration_by Option-elim
+    command_suits s r q o = record { is = rw (found, s, r, o.is (configuration_by c) refl); inside = o.inside }
+
+    pub other_payload : suits (codec_by k) p ≡ false → Commands (configuration_by c) n p t None
+    unfolding commanded configuration_by Option-elim
+    other_payload s = record { is = rw (found, s); inside = tt }
+
+    pub other_time : suits (codec_by k) p ≡ true → ptime_none_or_in_range (configuration_by c) t ≡ false → Commands (configuration_by c) n p t None
+    unfolding commanded configuration_by Option-elim
+    other_time s r = record { is = rw (found, s, r); inside = tt }

@@ -2,6 +2,4 @@
 -- Assumes nothing.
 pub mod AddressLaws
 pub mod HearingLaws
-pub mod RequestLaws
-pub mod AcceptedLaws
 pub mod CommandLaws

@@ -7,12 +7,3 @@ pub mod addresses;
 pub mod commands;
 pub mod hearing;
 pub mod requests;
-
-use bearer::Request;
-
-// A command's Request, if its fields suit the configuration; otherwise a Request that is never written.
-#[derive(Clone, Copy)]
-pub struct Command {
-    pub suits: bool,
-    pub request: Request,
-}

@@ -1,83 +1,61 @@
 // Judging a peer's Request.
-ghost use Rattle.std.specs.Prelude.{◌≡◌};
+ghost use Rattle.std.specs.Prelude.{ℕ, ◌≡◌, List};
 ghost use Rattle.media.specs.Meaning.{stream_by};
 ghost use Rattle.configuration.specs.Meaning.{configuration_by};
 ghost use Rattle.bearer.specs.Judging.{unmoved, right_stream, right_request, nearest};
-ghost use Rattle.bearer.specs.Meaning.{bearer_by, named_by, bearer_if};
+ghost use Rattle.bearer.specs.Meaning.{named_by, in_force_by};
 
-use crate::addresses::{same_address, same_family};
-use address::Address;
+use crate::addresses::same_family;
 use bearer::Bearer;
 use configuration::Config;
 use configuration::codecs::names_any;
+use ipbcp::Description;
 use media::Stream;
 use octets::spans::text;
 use octets::words::equals;
 
-// Address and port are those of the bearer b, if one is held.
-fn is_unmoved(held: bool, b: Bearer, address: Address, s: Stream, m: &[u8]) -> bool
-    ensures { result ≡ unmoved (bearer_if held (bearer_by b)) (named_by m.now address s) }
+// Address and port are those of the bearer in force, if there is one. The texts, in m, do not matter.
+#[tactic(auto, using(crate::proofs::AddressLaws::equal_is), unfolding(bearer::specs::Judging::unmoved, bearer::specs::Meaning::bearer_by, bearer::specs::Meaning::named_by, media::specs::Meaning::stream_by))]
+fn is_unmoved(in_force: Option<&Bearer>, d: Description) -> bool
+    ensures { (m : List ℕ) → result ≡ unmoved (in_force_by in_force.entry) (named_by m d) }
 {
-    let at = b.address;
-    let stream = b.stream;
-    if held {
-        if same_address(at, address) {
-            return stream.port == s.port;
-        }
-        return false;
+    match in_force {
+        None => true,
+        Some(b) => b.address == d.address && b.stream.port == d.stream.port,
     }
-    true
 }
 
 // The stream s is for audio, over RTP/AVP, with a payload that is configured.
+#[tactic(auto, unfolding(bearer::specs::Judging::right_stream, media::specs::Meaning::stream_by, configuration::specs::Meaning::configuration_by))]
 fn right_stream(c: Config, s: Stream, m: &[u8]) -> bool
     ensures { result ≡ right_stream (configuration_by c) (stream_by m.now s) }
 {
-    let media = s.media;
-    let transport = s.transport;
-    let rtpmap = s.rtpmap;
-    if equals(b"audio", text(m, media)) {
-        if equals(b"RTP/AVP", text(m, transport)) {
-            return names_any(c, s.payload, text(m, rtpmap));
-        }
-    }
-    false
+    equals(b"audio", text(m, s.media))
+        && equals(b"RTP/AVP", text(m, s.transport))
+        && names_any(c, s.payload, text(m, s.rtpmap))
 }
 
-// The Request with this address and stream, whose texts are in m, is right; b is in force if a bearer is held.
-pub fn right_request(
-    c: Config,
-    held: bool,
-    b: Bearer,
-    address: Address,
-    s: Stream,
-    m: &[u8],
-) -> bool
-    ensures { result ≡ right_request (configuration_by c) (bearer_if held (bearer_by b)) (named_by m.now address s) }
+// The Request that says d, whose texts are in m, is right.
+#[tactic(auto, unfolding(bearer::specs::Judging::right_request, bearer::specs::Meaning::named_by, configuration::specs::Meaning::configuration_by))]
+pub fn right_request(c: Config, in_force: Option<&Bearer>, d: Description, m: &[u8]) -> bool
+    ensures { result ≡ right_request (configuration_by c) (in_force_by in_force.entry) (named_by m.now d) }
 {
-    let own = c.own;
-    if same_family(own, address) {
-        if right_stream(c, s, m) {
-            return is_unmoved(held, b, address, s, m);
-        }
-    }
-    false
+    same_family(c.own, d.address) && right_stream(c, d.stream, m) && is_unmoved(in_force, d)
 }
 
 // The packet time in range that is nearest to n; 0, for none, stays 0.
+#[tactic(auto, unfolding(bearer::specs::Judging::nearest, configuration::specs::Meaning::configuration_by))]
 pub fn nearest_time(c: Config, n: u8) -> u8
     ensures { result ≡ nearest (configuration_by c) n }
 {
-    let least = c.least;
-    let most = c.most;
     if n == 0 {
         return 0;
     }
-    if n < least {
-        return least;
+    if n < c.least {
+        return c.least;
     }
-    if most < n {
-        return most;
+    if c.most < n {
+        return c.most;
     }
     n
 }

@@ -1,11 +1,11 @@
--- `commands::payload_for` meets its contract: a payload that suits is the entry's, or 96 to 127.
+-- `payload_for` meets its contract.
 -- Assumes nothing.
-use borrow.Author.Rules.{rules}
-use Rattle.judge.proofs.CommandLaws.{payloads}
+use Rattle.std.proofs.Common.{rules}
+use Rattle.judge.proofs.CommandLaws.{payload_fixed, payload_named}
 use Rattle.judge.proofs.commands.payload_for.Goals as goal
 
 pub returns-in-Payload : goal.returns-in-Payload
-returns-in-Payload c = search (payloads, rules)
+returns-in-Payload c = search (payload_fixed, rules)
 
-pub returns-in-Named : goal.returns-in-Named
-returns-in-Named c = search (payloads, rules)
+pub overflow_cast-result : goal.overflow_cast-result
+overflow_cast-result c = search (payload_named, rules)

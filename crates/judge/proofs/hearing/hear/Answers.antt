@@ -1,29 +1,14 @@
--- `hearing::hear` meets its contract: by how the message was read.
+-- `hear` meets its contract.
 -- Assumes nothing.
 use borrow.Author.Rules.{rules}
-use Rattle.judge.proofs.HearingLaws.{hears, read_wrong}
+use Rattle.judge.proofs.HearingLaws.{read_wrong, read_typed, hear_refused}
 use Rattle.judge.proofs.hearing.hear.Goals as goal
 
 pub hear_wrong-requires : goal.hear_wrong-requires
 hear_wrong-requires c = search (read_wrong, rules)
 
-pub returns-then-n-eq10 : goal.returns-then-n-eq10
-returns-then-n-eq10 c = search (hears, rules)
+pub returns-in-Ok-Typed : goal.returns-in-Ok-Typed
+returns-in-Ok-Typed c = c.hear_typed.ensures c.args.m.now c.in-Ok-Typed.field-0-0 (search (read_typed, rules))
 
-pub returns-else-n-eq10 : goal.returns-else-n-eq10
-returns-else-n-eq10 c = search (hears, rules)
-
-pub returns-in-Typed : goal.returns-in-Typed
-returns-in-Typed c = search (hears, rules)
-
-pub returns-in-Request : goal.returns-in-Request
-returns-in-Request c = search (hears, rules)
-
-pub returns-in-Accepted : goal.returns-in-Accepted
-returns-in-Accepted c = search (hears, rules)
-
-pub returns-in-Confused : goal.returns-in-Confused
-returns-in-Confused c = search (hears, rules)
-
-pub returns-in-Rejected : goal.returns-in-Rejected
-returns-in-Rejected c = search (hears, rules)
+pub returns-in_default : goal.returns-in_default
+returns-in_default c = search (hear_refused, rules)

@@ -1,17 +1,15 @@
--- `hearing::hear_typed` meets its contract: by the four types; a Request of version 1 is read to its end.
+-- `hear_typed` meets its contract.
 -- Assumes nothing.
+use mathlib.Core.Logic.{inl, inr}
 use borrow.Author.Rules.{rules}
-use Rattle.judge.proofs.HearingLaws.{typeds}
+use Rattle.judge.proofs.HearingLaws.{typed_request, typed_accepted, typed_confused, typed_rejected}
 use Rattle.judge.proofs.hearing.hear_typed.Goals as goal
 
 pub returns-in-Request : goal.returns-in-Request
-returns-in-Request c = search (typeds, rules)
+returns-in-Request c = search (typed_request, rules)
 
 pub returns-in-Accepted : goal.returns-in-Accepted
-returns-in-Accepted c = search (typeds, rules)
+returns-in-Accepted c = search (typed_accepted, rules)
 
 pub returns-in-Confused : goal.returns-in-Confused
-returns-in-Confused c = search (typeds, rules)
-
-pub returns-in-Rejected : goal.returns-in-Rejected
-returns-in-Rejected c = search (typeds, rules)
+returns-in-Confused c = elim c.in-Confused.is [ inl p ↦ typed_confused _ p | inr p ↦ typed_rejected _ p ]

@@ -1,20 +1,11 @@
--- `hearing::hear_wrong` meets its contract: a message refused by 10 has a version and a type.
+-- `hear_wrong` meets its contract.
 -- Assumes nothing.
 use borrow.Author.Rules.{rules}
-use Rattle.judge.proofs.HearingLaws.{wrongs}
+use Rattle.judge.proofs.HearingLaws.{wrong_untyped}
 use Rattle.judge.proofs.hearing.hear_wrong.Goals as goal
 
-pub returns-in_default : goal.returns-in_default
-returns-in_default c = search (wrongs, rules)
+pub returns-in-Some : goal.returns-in-Some
+returns-in-Some c = c.hear_described.ensures c.args.m.now (record { version = c.in-Some.head.version; why = c.requires; head = search rules })
 
-pub returns-in-Request : goal.returns-in-Request
-returns-in-Request c = search (wrongs, rules)
-
-pub returns-in-Accepted : goal.returns-in-Accepted
-returns-in-Accepted c = search (wrongs, rules)
-
-pub returns-in-Confused : goal.returns-in-Confused
-returns-in-Confused c = search (wrongs, rules)
-
-pub returns-in-Rejected : goal.returns-in-Rejected
-returns-in-Rejected c = search (wrongs, rules)
+pub returns-in-None : goal.returns-in-None
+returns-in-None c = search (wrong_untyped, rules)
