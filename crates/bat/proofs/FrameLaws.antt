@@ -4,15 +4,17 @@ use Prim.Native.Nat.{ℕ, suc, ◌+◌, ◌-◌, ◌*◌, ◌%◌, ◌≤◌, �
 use mathlib.Core.Path.{◌≡◌, refl, sym, ap, ◌∙◌}
 use mathlib.Core.List.{List, [], ◌∷◌}
 use mathlib.Core.Option.{none, some}
-use lib.ListN.{length, get_or, take, drop, length-drop, drop_of_length-le, get_or-eq_default}
+use lib.ListN.{length, get_or, take, drop, length-drop}
 use lib.Seq.{drop-drop, take-take, length-take-le}
 use native.Mathlib.Omega.{arith}
 use native.Mathlib.Numerals.{add-one}
 use borrow.Author.Tests.{le-leb, lt-leb, lt-ltb, le-ltb, eq-eqb, ne_eqb}
+use lib.Dec.{ltb}
+use Rattle.std.specs.List.{prefix_len}
 use Rattle.octets.specs.Spans.{text_of}
 use Rattle.octets.proofs.CaseLaws.{by_le}
 use Rattle.octets.proofs.Pick.{some_is}
-use Rattle.octets.proofs.Laws.{next, drop_take}
+use Rattle.octets.proofs.Laws.{drop_take}
 use Rattle.std.specs.Prelude.{Option, Some, None, Ok, Err}
 use Rattle.bat.specs.declared.Size.{Size}
 use Rattle.bat.specs.declared.Frame.{Frame}
@@ -20,31 +22,15 @@ use Rattle.bat.specs.declared.Unframed.{Unframed}
 use Rattle.bat.specs.Framing.{octet, Length, sized, unsized, length_of, unmarked, counted_by, element_by, sized_by, front}
 use Rattle.bat.specs.FramingMeaning.{size_in, element_in, front_in, HeaderLength}
 
--- ---- octets
-pub octet_none : (s : List ℕ) (k : ℕ) → length s ≤ k → 0 ≡ octet k s
-octet_none s k h = sym (get_or-eq_default s 0 h)
-
--- ---- the first octet with bit 8 set, at position i; x is the count of those before it
-module _ (s : List ℕ) (i x : ℕ) (inv : i + unmarked (drop i s) ≡ x) where
-  pub mark_here : i < length s → 128 ≤ get_or s i 0 → i ≡ x
-  unfolding unmarked
-  mark_here h b =
-      let z : i + 0 ≡ x = rw (next s i h, le-leb 128 (get_or s i 0) b) at inv in
-      omega arith
-
-  pub mark_more : i < length s → get_or s i 0 < 128 → i + 1 + unmarked (drop (i + 1) s) ≡ x
-  unfolding unmarked
-  mark_more h b =
-      let z : i + suc (unmarked (drop (i + 1) s)) ≡ x = rw (next s i h, lt-leb 128 (get_or s i 0) b) at inv in
-      omega arith
-
-  pub mark_end : length s ≤ i → i ≡ x
-  unfolding unmarked
-  mark_end h =
-      let z : i + 0 ≡ x = rw (drop_of_length-le s {i = i} h) at inv in
-      omega arith
-
-pub ruleset marks = (mark_here, mark_more, mark_end)
+-- ---- the octets before the first with bit 8 set
+pub unmarked_is : (s : List ℕ) → prefix_len (λ b. ltb b 128) s ≡ unmarked s
+unfolding unmarked
+unmarked_is [] = refl
+unmarked_is (b ∷ s) =
+    let ih = unmarked_is s in
+    by_le 128 b _
+    (λ h. rw (le-leb 128 b h, le-ltb b 128 h))
+    (λ h. rw (lt-leb 128 b h, lt-ltb b 128 h, ih) (omega arith))
 
 -- ---- length
 pub size_none : (s : List ℕ) → length s < 1 → size_in s None ≡ some (length_of s)

@@ -46,24 +46,14 @@ pub fn read_size(s: &[u8]) -> Option<Size>
 pub fn count_unmarked(s: &[u8]) -> usize
     ensures { result ≡ unmarked s.now }
 {
-    let mut i = 0;
-    while i < s.len() {
-        if 128 <= s[i] {
-            return i;
-        }
-        i += 1;
-    }
-    i
+    s.iter().take_while(|b| **b < 128).count()
 }
 
 // Octet k of s, from 0; 0 if there is none.
 pub fn octet_at(s: &[u8], k: usize) -> u8
     ensures { result ≡ octet k s.now }
 {
-    if k < s.len() {
-        return s[k];
-    }
-    0
+    s.get(k).copied().unwrap_or(0)
 }
 
 // The element at the front of s, if s is not empty.
