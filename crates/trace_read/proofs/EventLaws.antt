@@ -3,14 +3,14 @@
 use Prim.Native.Nat.{ℕ, ◌%◌, ◌≤◌, ◌<◌}
 use mathlib.Core.Path.{◌≡◌, refl, sym, ◌∙◌}
 use mathlib.Core.List.{List, [], ◌∷◌}
-use mathlib.Core.Bool.{Bool, true, false, ◌&&◌, and-eq-true_iff}
-use mathlib.Core.Option.{none, some}
+use mathlib.Core.Bool.{Bool, true, false, ◌&&◌, cond, and-eq-true_iff}
+use mathlib.Core.Option.{Option, none, some}
 use lib.ListN.{length, drop}
 use lib.Dec.{eqb}
 use native.Mathlib.Omega.{arith}
 use borrow.Author.Tests.{lt-ltb, le-ltb, eq-eqb, ne_eqb, eqb-true}
-use Rattle.octets.specs.declared.Number.{Number}
-use Rattle.octets.specs.declared.Number.TheVariants.{Value, Bad}
+use Rattle.std.specs.Prelude as code
+use Rattle.std.specs.Prelude.{Some, None}
 use Rattle.octets.specs.Decimal.{read_number, on_number}
 use Rattle.octets.specs.Hex.{is_hex_digit, all_hex, is_hex}
 use Rattle.octets.specs.Text.{char, tab}
@@ -18,15 +18,13 @@ use Rattle.octets.specs.Split.{has, before, on_first, split_on, part_at, separat
 use Rattle.octets.specs.Words.{begins, same}
 use Rattle.octets.proofs.CaseLaws.{by_eq, by_bool}
 use Rattle.octets.proofs.SplitLaws.{split_some, split_dot, has_before, split_whole}
+use Rattle.endpoint.specs.declared.Event as value
 use Rattle.endpoint.specs.declared.Event.TheVariants.{SetUp, Change, Release, T1, T2}
 use Rattle.endpoint.specs.Rule.{Event, set_up, change}
 use Rattle.trace_read.specs.declared.Asked.{Asked}
-use Rattle.trace_read.specs.declared.Asked.TheVariants.{Event as Named, Digits, Nothing}
-use Rattle.trace_read.specs.declared.events.ThreeNumbers.{ThreeNumbers}
-use Rattle.trace_read.specs.declared.events.ThreeNumbers.TheVariants.{Numbers, Wrong}
+use Rattle.trace_read.specs.declared.Asked.TheVariants.{Event as Named, Digits}
 use Rattle.trace_read.specs.Events.{bare_of, message_of, command_numbers, command_of, fields_event, line_event, message_by}
-use Rattle.trace_read.specs.Meaning.{asked_by, Asks}
-use Rattle.trace_read.specs.Private.{three_numbers}
+use Rattle.trace_read.specs.Meaning.{named_by, asked_by, Asks}
 use Rattle.trace_read.specs.Words.{most_line, set_up_word, change_word, release_word, t1_word, t2_word, message_word}
 use Rattle.trace_read.proofs.FieldLaws.{fields_are}
 
@@ -34,79 +32,72 @@ use Rattle.trace_read.proofs.FieldLaws.{fields_are}
 never : {X : Type 0} → true ≡ false → X
 never e = let z : ◌≡◌ {A = ℕ} 0 1 = cc in absurd (omega arith)
 
--- ---- a command's numbers
-on_three : {X : Type 0} → ThreeNumbers → (ℕ → ℕ → ℕ → X) → X → X
-on_three (Numbers a b c) go bad = go a b c
-on_three Wrong go bad = bad
+-- ---- a command
+module _ (ps : List (List ℕ)) where
+  no_command : (r : code.Option value.Event) → r ≡ None → ((f : ℕ → ℕ → ℕ → Event) → command_numbers f ps ≡ none) → named_by r ≡ command_of ps
+  unfolding command_of named_by
+  no_command r q h = rw (q, h set_up, h change) (go (same set_up_word (part_at 0 ps)) (same change_word (part_at 0 ps)))
+    where
+      go : (t u : Bool) → ◌≡◌ {A = Option Event} none (cond t none (cond u none none))
+      go true u = refl
+      go false true = refl
+      go false false = refl
 
-three_is : (x y z : Number) (f : ℕ → ℕ → ℕ → Event)
-    → on_number x (λ a. on_number y (λ b. on_number z (λ c. some (f a b c)) none) none) none
-    ≡ on_three (on_number x (λ a. on_number y (λ b. on_number z (λ c. Numbers a b c) Wrong) Wrong) Wrong) (λ a b c. some (f a b c)) none
-unfolding on_number on_three
-three_is (Value a) (Value b) (Value c) f = refl
-three_is (Value a) (Value b) Bad f = refl
-three_is (Value a) Bad z f = refl
-three_is Bad y z f = refl
+  pub command_entry : (r : code.Option value.Event) → r ≡ None → None ≡ read_number (part_at 1 ps) → named_by r ≡ command_of ps
+  unfolding command_numbers on_number
+  command_entry r q x = no_command r q (λ f. rw (← x))
 
-module _ (m : List ℕ) (ps : List (List ℕ)) (y : ThreeNumbers) (e : y ≡ three_numbers ps) where
-  numbers_are : (f : ℕ → ℕ → ℕ → Event) → command_numbers f ps ≡ on_three y (λ a b c. some (f a b c)) none
-  unfolding command_numbers three_numbers
-  numbers_are f = three_is (read_number (part_at 1 ps)) (read_number (part_at 2 ps)) (read_number (part_at 3 ps)) f ∙ rw e
+  module _ (a : ℕ) (x : Some a ≡ read_number (part_at 1 ps)) where
+    pub command_payload : (r : code.Option value.Event) → r ≡ None → None ≡ read_number (part_at 2 ps) → named_by r ≡ command_of ps
+    unfolding command_numbers on_number
+    command_payload r q y = no_command r q (λ f. rw (← x, ← y))
 
-  pub set_up_is : (a b c : ℕ) → y ≡ Numbers a b c → asked_by m (Named (SetUp a b c)) ≡ command_numbers set_up ps
-  unfolding asked_by on_three
-  set_up_is a b c q = rw (numbers_are set_up, q)
+    module _ (b : ℕ) (y : Some b ≡ read_number (part_at 2 ps)) where
+      pub command_ptime : (r : code.Option value.Event) → r ≡ None → None ≡ read_number (part_at 3 ps) → named_by r ≡ command_of ps
+      unfolding command_numbers on_number
+      command_ptime r q z = no_command r q (λ f. rw (← x, ← y, ← z))
 
-  pub set_up_isnt : y ≡ Wrong → asked_by m Nothing ≡ command_numbers set_up ps
-  unfolding asked_by on_three
-  set_up_isnt q = rw (numbers_are set_up, q)
+      module _ (d : ℕ) (z : Some d ≡ read_number (part_at 3 ps)) (p : List ℕ) (e : p ≡ part_at 0 ps) (t : Bool) (r : t ≡ same set_up_word p) where
+        numbers_are : (f : ℕ → ℕ → ℕ → Event) → command_numbers f ps ≡ some (f a b d)
+        unfolding command_numbers on_number
+        numbers_are f = rw (← x, ← y, ← z)
 
-  pub change_is : (a b c : ℕ) → y ≡ Numbers a b c → asked_by m (Named (Change a b c)) ≡ command_numbers change ps
-  unfolding asked_by on_three
-  change_is a b c q = rw (numbers_are change, q)
+        pub command_set_up : t ≡ true → named_by (Some (SetUp a b d)) ≡ command_of ps
+        unfolding command_of named_by
+        command_set_up q = rw (← e, ← r, q, numbers_are set_up)
 
-  pub change_isnt : y ≡ Wrong → asked_by m Nothing ≡ command_numbers change ps
-  unfolding asked_by on_three
-  change_isnt q = rw (numbers_are change, q)
+        module _ (u : Bool) (k : u ≡ same change_word p) (q : t ≡ false) where
+          pub command_change : u ≡ true → named_by (Some (Change a b d)) ≡ command_of ps
+          unfolding command_of named_by
+          command_change v = rw (← e, ← r, q, ← k, v, numbers_are change)
 
-pub ruleset commands = (set_up_is, set_up_isnt, change_is, change_isnt)
+          pub command_none : u ≡ false → named_by None ≡ command_of ps
+          unfolding command_of named_by
+          command_none v = rw (← e, ← r, q, ← k, v)
 
--- ---- the word, which is p
-module _ (m p : List ℕ) (ps : List (List ℕ)) (e : p ≡ part_at 0 ps) where
-  module _ (t : Bool) (r : t ≡ same set_up_word p) where
-    pub command_set_up : (x : Asked) → t ≡ true → asked_by m x ≡ command_numbers set_up ps → asked_by m x ≡ command_of ps
-    unfolding command_of
-    command_set_up x q h = rw (← e, ← r, q) h
+pub ruleset commands = (command_entry, command_payload, command_ptime, command_set_up, command_change, command_none)
 
-    module _ (u : Bool) (k : u ≡ same change_word p) (q : t ≡ false) where
-      pub command_change : (x : Asked) → u ≡ true → asked_by m x ≡ command_numbers change ps → asked_by m x ≡ command_of ps
-      unfolding command_of
-      command_change x v h = rw (← e, ← r, q, ← k, v) h
+-- ---- one field; the word is p
+module _ (p : List ℕ) (ps : List (List ℕ)) (e : p ≡ part_at 0 ps) (t : Bool) (r : t ≡ same release_word p) where
+  pub bare_release : t ≡ true → named_by (Some Release) ≡ bare_of ps
+  unfolding bare_of named_by
+  bare_release q = rw (← e, ← r, q)
 
-      pub command_none : u ≡ false → asked_by m Nothing ≡ command_of ps
-      unfolding command_of asked_by
-      command_none v = rw (← e, ← r, q, ← k, v)
+  module _ (u : Bool) (k : u ≡ same t1_word p) (q : t ≡ false) where
+    pub bare_t1 : u ≡ true → named_by (Some T1) ≡ bare_of ps
+    unfolding bare_of named_by
+    bare_t1 v = rw (← e, ← r, q, ← k, v)
 
-  module _ (t : Bool) (r : t ≡ same release_word p) where
-    pub bare_release : t ≡ true → asked_by m (Named Release) ≡ bare_of ps
-    unfolding bare_of asked_by
-    bare_release q = rw (← e, ← r, q)
+    module _ (w : Bool) (l : w ≡ same t2_word p) (v : u ≡ false) where
+      pub bare_t2 : w ≡ true → named_by (Some T2) ≡ bare_of ps
+      unfolding bare_of named_by
+      bare_t2 o = rw (← e, ← r, q, ← k, v, ← l, o)
 
-    module _ (u : Bool) (k : u ≡ same t1_word p) (q : t ≡ false) where
-      pub bare_t1 : u ≡ true → asked_by m (Named T1) ≡ bare_of ps
-      unfolding bare_of asked_by
-      bare_t1 v = rw (← e, ← r, q, ← k, v)
+      pub bare_none : w ≡ false → named_by None ≡ bare_of ps
+      unfolding bare_of named_by
+      bare_none o = rw (← e, ← r, q, ← k, v, ← l, o)
 
-      module _ (w : Bool) (l : w ≡ same t2_word p) (v : u ≡ false) where
-        pub bare_t2 : w ≡ true → asked_by m (Named T2) ≡ bare_of ps
-        unfolding bare_of asked_by
-        bare_t2 o = rw (← e, ← r, q, ← k, v, ← l, o)
-
-        pub bare_none : w ≡ false → asked_by m Nothing ≡ bare_of ps
-        unfolding bare_of asked_by
-        bare_none o = rw (← e, ← r, q, ← k, v, ← l, o)
-
-pub ruleset words = (command_set_up, command_change, command_none, bare_release, bare_t1, bare_t2, bare_none)
+pub ruleset words = (bare_release, bare_t1, bare_t2, bare_none)
 
 -- ---- a line that begins with `M` and a tab
 message_fields : (s : List ℕ) → begins (char "M" ∷ tab ∷ []) s ≡ true → split_on tab s ≡ message_word ∷ split_on tab (drop 2 s)
@@ -190,40 +181,46 @@ other_word (x ∷ y ∷ s) b h =
     long_word x y (p ∷ ps) = rw (ne_eqb (length (x ∷ y ∷ p)) 1 (λ e. omega arith))
 
 module _ (s : List ℕ) (n : ℕ) (c : n ≡ separators_of tab s) where
-  module _ (m : List ℕ) where
-    pub other_bare : (x : Asked) → n ≡ 0 → asked_by m x ≡ bare_of (split_on tab s) → asked_by m x ≡ fields_event (split_on tab s)
-    unfolding fields_event
-    other_bare x h r = rw (eq-eqb (length (split_on tab s)) 1 (omega (arith, fields_are s n c))) r
+  pub other_bare : (x : code.Option value.Event) → n ≡ 0 → named_by x ≡ bare_of (split_on tab s) → named_by x ≡ fields_event (split_on tab s)
+  unfolding fields_event
+  other_bare x h r = rw (eq-eqb (length (split_on tab s)) 1 (omega (arith, fields_are s n c))) r
 
-    pub other_command : (x : Asked) → n ≡ 3 → asked_by m x ≡ command_of (split_on tab s) → asked_by m x ≡ fields_event (split_on tab s)
-    unfolding fields_event
-    other_command x h r =
-        let l = fields_are s n c in
-        rw (ne_eqb (length (split_on tab s)) 1 (λ e. omega arith), ne_eqb (length (split_on tab s)) 2 (λ e. omega arith), eq-eqb (length (split_on tab s)) 4 (omega arith)) r
+  pub other_command : (x : code.Option value.Event) → n ≡ 3 → named_by x ≡ command_of (split_on tab s) → named_by x ≡ fields_event (split_on tab s)
+  unfolding fields_event
+  other_command x h r =
+      let l = fields_are s n c in
+      rw (ne_eqb (length (split_on tab s)) 1 (λ e. omega arith), ne_eqb (length (split_on tab s)) 2 (λ e. omega arith), eq-eqb (length (split_on tab s)) 4 (omega arith)) r
 
-    pub other_none : begins (char "M" ∷ tab ∷ []) s ≡ false → (n ≡ 0 → ⊥) → (n ≡ 3 → ⊥) → asked_by m Nothing ≡ fields_event (split_on tab s)
-    unfolding fields_event message_of asked_by
-    other_none b h k =
-        let l = fields_are s n c in
-        rw (ne_eqb (length (split_on tab s)) 1 (λ e. h (omega arith)), ne_eqb (length (split_on tab s)) 4 (λ e. k (omega arith)))
-        (by_eq (length (split_on tab s)) 2 _
-        (λ e. rw (eq-eqb (length (split_on tab s)) 2 e, other_word s b e))
-        (λ e. rw (ne_eqb (length (split_on tab s)) 2 e)))
+  pub other_none : begins (char "M" ∷ tab ∷ []) s ≡ false → (n ≡ 0 → ⊥) → (n ≡ 3 → ⊥) → named_by None ≡ fields_event (split_on tab s)
+  unfolding fields_event message_of named_by
+  other_none b h k =
+      let l = fields_are s n c in
+      rw (ne_eqb (length (split_on tab s)) 1 (λ e. h (omega arith)), ne_eqb (length (split_on tab s)) 4 (λ e. k (omega arith)))
+      (by_eq (length (split_on tab s)) 2 _
+      (λ e. rw (eq-eqb (length (split_on tab s)) 2 e, other_word s b e))
+      (λ e. rw (ne_eqb (length (split_on tab s)) 2 e)))
 
 pub ruleset others = (other_bare, other_command, other_none)
 
 -- ---- the line
-module _ (s : List ℕ) where
-  pub event_long : most_line ≤ length s → Asks s Nothing
-  unfolding line_event asked_by
-  event_long h = record { is = rw (le-ltb (length s) most_line h); short = λ e. (let z : ◌≡◌ {A = ℕ} 0 1 = cc in absurd (omega arith)) }
+not_digits : {X : Type 0} → ◌≡◌ {A = code.Option Asked} None (Some Digits) → X
+not_digits e = let z : ◌≡◌ {A = ℕ} 0 1 = cc in absurd (omega arith)
 
-  pub event_is : (x : Asked) → length s < most_line → asked_by s x ≡ fields_event (split_on tab s) → Asks s x
-  unfolding line_event
+module _ (s : List ℕ) where
+  pub event_long : most_line ≤ length s → Asks s None
+  unfolding line_event asked_by
+  event_long h = record { is = rw (le-ltb (length s) most_line h); short = λ e. not_digits e }
+
+  pub event_none : (r : code.Option Asked) → r ≡ None → length s < most_line → named_by None ≡ fields_event (split_on tab s) → Asks s r
+  unfolding line_event asked_by named_by
+  event_none r q h n = rw q (record { is = rw (lt-ltb (length s) most_line h) n; short = λ e. h })
+
+  pub event_is : (x : value.Event) → length s < most_line → named_by (Some x) ≡ fields_event (split_on tab s) → Asks s (Some (Named x))
+  unfolding line_event asked_by named_by
   event_is x h r = record { is = rw (lt-ltb (length s) most_line h) r; short = λ e. h }
 
-  pub event_digits : (t : Bool) → t ≡ begins (char "M" ∷ tab ∷ []) s → t ≡ true → length s < most_line → Asks s Digits
+  pub event_digits : (t : Bool) → t ≡ begins (char "M" ∷ tab ∷ []) s → t ≡ true → length s < most_line → Asks s (Some Digits)
   unfolding line_event asked_by
   event_digits t e q h = record { is = rw (lt-ltb (length s) most_line h) (message_is s (sym e ∙ q)); short = λ e. h }
 
-pub ruleset lines = (event_long, event_is, event_digits)
+pub ruleset lines = (event_long, event_none, event_is, event_digits)

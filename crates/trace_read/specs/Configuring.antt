@@ -1,13 +1,12 @@
 -- Document 01, "Trace program": the lines that configure the endpoint. `none` is refused by 12.
 use Rattle.std.specs.Prelude.{ℕ, List, [], ◌∷◌, ◌++◌, Bool, ◌&&◌, cond, length, eqb, ltb}
+use Rattle.std.specs.Prelude as code
 use Rattle.std.proofs.Math.Option.{Option, none, some, Option-elim}
 use Rattle.octets.specs.Chain.{when, number}
 use Rattle.octets.specs.Decimal.{all_digits}
 use Rattle.octets.specs.Split.{part_at}
 use Rattle.address.specs.declared.Address.{Address}
-use Rattle.address.specs.declared.Parsed.{Parsed}
-use Rattle.address.specs.declared.Parsed.TheVariants.{Unicast}
-use Rattle.address.specs.Kinds.{on_parsed, unicast}
+use Rattle.address.specs.Kinds.{on_address, unicast}
 use Rattle.address.specs.Ipv4.{read_v4}
 use Rattle.address.specs.Ipv6.{read_v6}
 use Rattle.configuration.specs.Configuration.{Codec, fixed, named, Configuration, most_codecs, right_codec, right_general}
@@ -15,8 +14,8 @@ use Rattle.trace_read.specs.Words.{fields_of, first_is, general_word, codec_word
 
 -- ---- `G`: own address, port, least and greatest packet time, T1 and T2
 -- an address of either family
-unfoldable pub either_family : List ℕ → Parsed
-either_family s = on_parsed (read_v4 s) Unicast (read_v6 s)
+unfoldable pub either_family : List ℕ → code.Option Address
+either_family s = on_address (read_v4 s) code.Some (read_v6 s)
 
 -- a configuration with no codec yet
 unfoldable pub general : Address → ℕ → ℕ → ℕ → ℕ → ℕ → Configuration

@@ -5,7 +5,6 @@ pub mod configure;
 pub mod events;
 pub mod lend;
 
-use configuration::Config;
 use endpoint::Event;
 
 // The most octets of a line, with its LF.
@@ -20,14 +19,6 @@ pub enum Asked {
     Event(Event),
     // A message. Its digits come after the first two octets of the line, and are not read yet.
     Digits,
-    Nothing,
-}
-
-// A configuration as far as it was read. If it is not right, it must not be used.
-#[derive(Clone, Copy)]
-pub struct Configured {
-    pub right: bool,
-    pub config: Config,
 }
 
 // How many octets are lent to an event, and where its text begins in the line.

@@ -7,8 +7,8 @@ use Rattle.trace_read.proofs.configure.read_codec_line.Goals as goal
 pub returns-then-separators-ne1 : goal.returns-then-separators-ne1
 returns-then-separators-ne1 c = search (codec_lines, rules)
 
-pub returns-then-known : goal.returns-then-known
-returns-then-known c = search (codec_lines, rules)
+pub returns-in_err-codec : goal.returns-in_err-codec
+returns-in_err-codec c = search (codec_lines, c.in_err-codec.ensures, rules)
 
 pub returns : goal.returns
-returns c = search (codec_lines, rules)
+returns c = search (codec_lines, c.in_ok-codec.ensures, rules)

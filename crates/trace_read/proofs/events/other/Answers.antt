@@ -4,11 +4,11 @@ use borrow.Author.Rules.{rules}
 use Rattle.trace_read.proofs.EventLaws.{others}
 use Rattle.trace_read.proofs.events.other.Goals as goal
 
-pub returns-then-n-eq0 : goal.returns-then-n-eq0
-returns-then-n-eq0 c = search (others, rules)
+pub returns-in-0 : goal.returns-in-0
+returns-in-0 c = search (others, rules)
 
-pub returns-then-n-eq3 : goal.returns-then-n-eq3
-returns-then-n-eq3 c = search (others, rules)
+pub returns-in-3 : goal.returns-in-3
+returns-in-3 c = search (others, rules)
 
-pub returns : goal.returns
-returns c = search (others, rules)
+pub returns-in_default : goal.returns-in_default
+returns-in_default c = search (others, rules)

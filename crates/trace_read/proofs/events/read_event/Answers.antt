@@ -14,5 +14,8 @@ returns-then-starts c = search (lines, rules)
 pub other-requires : goal.other-requires
 other-requires c = search (flags, rules)
 
+pub returns-in_err-event : goal.returns-in_err-event
+returns-in_err-event c = search (lines, c.in_err-event.ensures, rules)
+
 pub returns : goal.returns
-returns c = search (lines, rules)
+returns c = search (lines, c.in_ok-event.ensures, rules)

@@ -3,12 +3,14 @@
 use borrow.Author.Rules.{rules}
 use Rattle.trace_read.proofs.LendLaws.{lends}
 use Rattle.trace_read.proofs.lend.lend.Goals as goal
-
-pub returns-then-not-detailed : goal.returns-then-not-detailed
-returns-then-not-detailed c = search (lends, rules)
+use Rattle.trace_read.proofs.lend.lend.Goals.{else-detailed-via-then-detailed+else-starts, else-detailed-via-else-detailed}
 
 pub returns-then-starts : goal.returns-then-starts
 returns-then-starts c = search (lends, rules)
 
 pub returns : goal.returns
-returns c = search (lends, rules)
+returns c =
+    elim c.else-detailed.branch [
+      | else-detailed-via-then-detailed+else-starts w ↦ search (lends, rules)
+      | else-detailed-via-else-detailed w ↦ search (lends, rules)
+    ]

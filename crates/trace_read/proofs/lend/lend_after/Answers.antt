@@ -7,8 +7,8 @@ use Rattle.trace_read.proofs.lend.lend_after.Goals as goal
 pub returns-then-s-e : goal.returns-then-s-e
 returns-then-s-e c = search (lendings, rules)
 
-pub returns-in-Value : goal.returns-in-Value
-returns-in-Value c = search (lendings, rules)
+pub returns-in_err-n : goal.returns-in_err-n
+returns-in_err-n c = search (lendings, rules)
 
-pub returns-in-Bad : goal.returns-in-Bad
-returns-in-Bad c = search (lendings, rules)
+pub returns : goal.returns
+returns c = search (lendings, c.in_ok-n.was, rules)
