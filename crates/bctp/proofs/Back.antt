@@ -5,7 +5,7 @@ use mathlib.Core.Path.{◌≡◌, refl}
 use mathlib.Core.List.{List}
 use mathlib.Core.Option.{Option, none, some, map}
 use lib.ListN.{take}
-use Rattle.octets.specs.declared.Put.TheVariants.{Octets}
+use Rattle.std.specs.Prelude.{Ok}
 use Rattle.octets.specs.Puts.{Puts}
 use Rattle.octets.proofs.PutsLaws.{puts_no}
 use Rattle.address.specs.declared.Address.{Address}
@@ -23,7 +23,7 @@ unfolding opened_packet opened_by right_first right_second has_error version_of 
 packet_back m = refl
 
 carried : (own : Address) → fits own → (o : Option Content) (t : Option (List ℕ)) → message_octets_in own o ≡ t → (l : List ℕ) (n : ℕ) (f : List ℕ)
-    → Puts (map packet_text t) l (Octets n) f → Carried own o (take n f)
+    → Puts (map packet_text t) l (Ok n) f → Carried own o (take n f)
 carried own fit o none e l n f p = absurd (puts_no l n f p)
 carried own fit o (some t) e l n f p =
     let q : some (packet_text t) ≡ some (take n f) = puts_front (some (packet_text t)) l n f p in
@@ -32,5 +32,5 @@ carried own fit o (some t) e l n f p =
 
 -- from the contract of `write_packet`, where it answers n octets
 pub packet_written_back : (own : Address) → fits own → (source : List ℕ) (b : Body) (l : List ℕ) (n : ℕ) (f : List ℕ)
-    → Puts (map packet_text (message_octets_in own (content_in source b))) l (Octets n) f → Carried own (content_in source b) (take n f)
+    → Puts (map packet_text (message_octets_in own (content_in source b))) l (Ok n) f → Carried own (content_in source b) (take n f)
 packet_written_back own fit source b l n f p = carried own fit (content_in source b) (message_octets_in own (content_in source b)) refl l n f p

@@ -2,6 +2,8 @@
 -- Octet 1: bit 8 is 0, bit 7 the version error, bit 6 is 1, bits 5 to 1 the version; 0 means version 1.
 -- Octet 2: bit 8 is 0, bit 7 the protocol error, bits 6 to 1 the protocol; 32 means IPBCP.
 use Rattle.std.specs.Prelude.{ℕ, ◌+◌, ◌*◌, ◌/◌, ◌%◌, List, [], ◌∷◌, Bool, not, ◌&&◌, ◌||◌, cond, eqb, ltb}
+use Rattle.octets.specs.declared.Refusal.{Refusal}
+use Rattle.octets.specs.declared.Refusal.TheVariants.{BufferTooShort, PacketTooShort, WrongIndicators}
 
 -- ---- the two indicators
 -- bit 8 clear and bit 6 set
@@ -36,8 +38,7 @@ ipbcp = 32
 
 -- ---- opening a packet
 pub data Opened : Type 0 where
-  -- document 01's number
-  refused : ℕ → Opened
+  refused : Refusal → Opened
   -- an error bit is set: the peer found an error in what it was sent, and there is no reply
   tunnel_notice : Opened
   -- a packet to send back
@@ -47,22 +48,22 @@ pub data Opened : Type 0 where
 -- the octets a and b, then m; the checks are in document 01's order
 unfoldable pub opened_by : ℕ → ℕ → List ℕ → Opened
 opened_by a b m =
-    cond (not (right_first a && right_second b)) (refused 7)
+    cond (not (right_first a && right_second b)) (refused WrongIndicators)
     (cond (has_error a || has_error b) tunnel_notice
     (cond (not (eqb (version_of a) 0)) (tunnel_reply (version_indicator 1 ∷ protocol_indicator 0 (protocol_of b) ∷ []))
     (cond (not (eqb (protocol_of b) ipbcp)) (tunnel_reply (version_indicator 0 ∷ protocol_indicator 1 (protocol_of b) ∷ []))
     (tunnel_message m))))
 
 unfoldable pub opened_packet : List ℕ → Opened
-opened_packet [] = refused 6
-opened_packet (a ∷ []) = refused 6
+opened_packet [] = refused PacketTooShort
+opened_packet (a ∷ []) = refused PacketTooShort
 opened_packet (a ∷ b ∷ m) = opened_by a b m
 
--- 4 if a reply is due and the buffer has no room for it
+-- BufferTooShort if a reply is due and the buffer has no room for it
 unfoldable pub with_room : ℕ → Opened → Opened
-with_room room (refused n) = refused n
+with_room room (refused e) = refused e
 with_room room tunnel_notice = tunnel_notice
-with_room room (tunnel_reply t) = cond (ltb room 2) (refused 4) (tunnel_reply t)
+with_room room (tunnel_reply t) = cond (ltb room 2) (refused BufferTooShort) (tunnel_reply t)
 with_room room (tunnel_message m) = tunnel_message m
 
 -- ---- writing a packet: version 1, IPBCP, no errors, and the message
