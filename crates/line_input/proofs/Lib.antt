@@ -2,3 +2,4 @@
 -- Assumes nothing.
 pub mod GatherLaws
 pub mod WholeLaws
+pub mod LfLaws

@@ -3,12 +3,13 @@
 
 ghost use Rattle.std.specs.Prelude.{◌≡◌, drop};
 ghost use Rattle.std.proofs.Math.Option.{some};
-ghost use Rattle.sdp.specs.Lines.{is_plain, all_plain, in_lines};
+ghost use Rattle.sdp.specs.Lines.{all_plain, in_lines};
 ghost use Rattle.sdp.specs.Meaning.{first_line, line_in};
-ghost use Rattle.sdp.specs.Private.{PlainTo, Ends, is_start};
+ghost use Rattle.sdp.specs.Private.{Ends, is_start};
 
+use memchr::memchr3;
 use octets::Span;
-use octets::parts::last_three;
+use octets::spans::after;
 
 // A line: its letter, its value (what comes after the `=`), and where the next line starts.
 #[derive(Clone, Copy)]
@@ -18,57 +19,14 @@ pub struct Line {
     pub next: usize,
 }
 
-// b may be part of a line: it is not 0, CR or LF.
-fn is_plain(b: u8) -> bool
-    ensures { result ≡ is_plain b }
-{
-    if b == 0 {
-        return false;
-    }
-    if b == b'\r' {
-        return false;
-    }
-    b != b'\n'
-}
-
-// A place at or after i with only plain octets between. Octets above CR are plain; they are passed four at a time.
-fn pass_fours(m: &[u8], i: usize) -> usize
-    ensures { PlainTo m.now i result }
-{
-    let stop = last_three(m);
-    let mut n = i;
-    while n < stop {
-        if m[n] <= b'\r' {
-            return n;
-        }
-        if m[n + 1] <= b'\r' {
-            return n + 1;
-        }
-        if m[n + 2] <= b'\r' {
-            return n + 2;
-        }
-        if m[n + 3] <= b'\r' {
-            return n + 3;
-        }
-        n += 4;
-    }
-    n
-}
-
 // The place of the first 0, CR or LF of m at or after i, or the end.
 fn find_end(m: &[u8], i: usize) -> usize
     ensures { Ends m.now i result }
 {
-    let mut n = pass_fours(m, i);
-    while n < m.len() {
-        let b = m[n];
-        if is_plain(b) {
-            n += 1;
-        } else {
-            return n;
-        }
+    match memchr3(0, b'\r', b'\n', after(m, i)) {
+        Some(k) => i + k,
+        None => i.max(m.len()),
     }
-    n
 }
 
 // s has only octets that may be part of a line.
