@@ -8,6 +8,9 @@ use mathlib.Core.List.{List, [], ◌∷◌, ◌++◌, foldl-append, Sublistᴰ}
 use lib.ListN.{length, drop}
 use lib.Seq.{take_at}
 use native.Mathlib.Omega.{arith}
+use Rattle.std.specs.Prelude.{Result, Ok, Err}
+use Rattle.octets.specs.declared.Refusal.{Refusal}
+use Rattle.octets.specs.declared.Refusal.TheVariants.{BadConfiguration}
 use Rattle.octets.proofs.CaseLaws.{by_bool}
 use Rattle.book.specs.Book.{idle, settled, replied, refusal, done}
 use Rattle.book.specs.Book as book
@@ -16,7 +19,6 @@ use Rattle.book.specs.Strike.{logged, log_of, last_settled}
 use Rattle.book.proofs.Struck.{struck}
 use Rattle.media.specs.Stream.{Stream}
 use Rattle.configuration.specs.declared.Config.{Config}
-use Rattle.configuration.specs.declared.Checked.TheVariants.{Usable, Refused}
 use Rattle.configuration.specs.Meaning.{configuration_by, right_config, checked}
 use Rattle.bearer.specs.Bearer.{Bearer}
 use Rattle.bearer.specs.Meaning.{request_by, bearer_by}
@@ -79,14 +81,14 @@ demand3 c e h gs ls f run =
     }
 
 -- `Endpoint::new` returns a fresh endpoint for a configuration that it does not refuse
-pub opened_fresh : (c : Config) (o : Created) → Creates c o → o.checked ≡ Usable → Fresh c o.endpoint
+pub opened_fresh : (c : Config) (o : Created) → Creates c o → o.checked ≡ Ok tt → Fresh c o.endpoint
 unfolding checked
 opened_fresh c o h e = record { right = by_bool (right_config c) _ (λ t. t) (λ t. absurd (refused t)); config = ap (λ (x : Endpoint). x.config) h.endpoint; idle = ap (λ (x : Endpoint). x.state) h.endpoint }
   where
     refused : right_config c ≡ false → ⊥
     refused t =
-        let a : cond (right_config c) Usable (Refused 12) ≡ Usable = sym h.checked ∙ e in
-        let b : Refused 12 ≡ Usable = rw t at a in
+        let a : ◌≡◌ {A = Result Unit Refusal} (cond (right_config c) (Ok tt) (Err BadConfiguration)) (Ok tt) = sym h.checked ∙ e in
+        let b : ◌≡◌ {A = Result Unit Refusal} (Err BadConfiguration) (Ok tt) = rw t at a in
         let z : ◌≡◌ {A = ℕ} 0 1 = cc in
         omega arith
 

@@ -9,9 +9,11 @@ use lib.ListN.{length}
 use lib.Dec.{eqb, leb}
 use native.Mathlib.Omega.{arith}
 use borrow.Author.Tests.{le-ltb, le-leb, ne_eqb}
+use Rattle.std.specs.Prelude.{Some, None, Result, Ok, Err}
+use Rattle.std.specs.Prelude as code
+use Rattle.octets.specs.declared.Refusal.{Refusal}
+use Rattle.octets.specs.declared.Refusal.TheVariants.{BufferTooShort}
 use Rattle.octets.proofs.CaseLaws.{by_eq, by_bool}
-use Rattle.book.specs.declared.State.{State}
-use Rattle.book.specs.declared.Notice.{Notice}
 use Rattle.book.specs.Book.{settled, awaited, ignores, replied}
 use Rattle.book.specs.Book.{refused, discarded, opened, agreed, failed, released, request_confused, request_right, request_wrong}
 use Rattle.book.specs.Strike.{in_force_by}
@@ -20,7 +22,6 @@ use Rattle.media.specs.Stream.{Stream}
 use Rattle.ipbcp.specs.declared.MessageType as kinds
 use Rattle.ipbcp.specs.declared.MessageType.TheVariants as kind
 use Rattle.ipbcp.specs.declared.Head.{Head}
-use Rattle.ipbcp.specs.declared.Head.TheVariants.{Typed, Untyped}
 use Rattle.ipbcp.specs.Types.{head_in}
 use Rattle.ipbcp.specs.Reading.{Reading, typed, described, read_message, most_read}
 use Rattle.ipbcp.specs.Reading as reading
@@ -30,13 +31,12 @@ use Rattle.configuration.specs.Configuration.{Configuration, right_configuration
 use Rattle.configuration.specs.Meaning.{configuration_by, config_inside, right_config}
 use Rattle.bearer.specs.Bearer.{Bearer}
 use Rattle.bearer.specs.Hearing as hears
-use Rattle.bearer.specs.Hearing.{Heard, heard, heard_by, bearer_in}
+use Rattle.bearer.specs.Hearing.{Heard, heard, heard_typed, heard_by, bearer_in}
 use Rattle.bearer.specs.Judging.{commanded, right_request, granted, accepted_for, right_accepted}
 use Rattle.bearer.proofs.Writable.{confused_octets, rejected_octets, commanded_octets, answered_octets}
 use Rattle.endpoint.specs.declared.Endpoint.{Endpoint}
 use Rattle.endpoint.specs.declared.Answer.{Answer}
-use Rattle.endpoint.specs.declared.Reply.{Reply}
-use Rattle.endpoint.specs.declared.Reply.TheVariants.{Refused, Done}
+use Rattle.endpoint.specs.declared.Done.{Done}
 use Rattle.endpoint.specs.Rule.{Book, Verdict, Event, Given, command_verdict, answer_confused, answer_rejected, request_verdict, accepted_verdict, if_awaited, message_verdict, event_verdict, rule, exchanged, least_room}
 use Rattle.endpoint.specs.Step.{book_of, Gave, Did}
 use Rattle.endpoint.specs.Demand.{reply_by}
@@ -45,25 +45,25 @@ use Rattle.endpoint.proofs.Ruled.{either, rule_laws}
 use Rattle.endpoint.proofs.Demand.{told_back}
 
 -- ---- demand 1: a refusal alters nothing
-no_refusal : {r : Reply} {s : State} {n : Notice} {w : ℕ} {d : Bool} {m : ℕ} → r ≡ Done s n w d → r ≡ Refused m → ⊥
+no_refusal : {r : Result Done Refusal} {d : Done} {e : Refusal} → r ≡ Ok d → r ≡ Err e → ⊥
 no_refusal p q = let z : ◌≡◌ {A = ℕ} 0 1 = cc in omega arith
 
--- what is answered by a refusal's number got that verdict
-refused_is : (self : Endpoint) (v : Verdict) (xs ys : List ℕ) (r : Answer) (n : ℕ) → Gave self v xs ys r → r.reply ≡ Refused n → v ≡ refused n
-refused_is self (refused m) xs ys r n g e = let p = g.reply in let same : m ≡ n = cc in ap (λ (k : ℕ). refused k) same
-refused_is self discarded xs ys r n g e = absurd (no_refusal g.reply e)
-refused_is self (opened q o) xs ys r n g e = absurd (no_refusal g.reply e)
-refused_is self (agreed b) xs ys r n g e = absurd (no_refusal g.reply e)
-refused_is self failed xs ys r n g e = absurd (no_refusal g.reply e)
-refused_is self released xs ys r n g e = absurd (no_refusal g.reply e)
-refused_is self (request_confused o) xs ys r n g e = absurd (no_refusal g.reply e)
-refused_is self (request_right b o) xs ys r n g e = absurd (no_refusal g.reply e)
-refused_is self (request_wrong o) xs ys r n g e = absurd (no_refusal g.reply e)
+-- what is answered by a refusal got that verdict
+refused_is : (self : Endpoint) (v : Verdict) (xs ys : List ℕ) (r : Answer) (why : Refusal) → Gave self v xs ys r → r.reply ≡ Err why → v ≡ refused why
+refused_is self (refused m) xs ys r why g e = let p = g.reply in let same : m ≡ why = cc in ap (λ (k : Refusal). refused k) same
+refused_is self discarded xs ys r why g e = absurd (no_refusal g.reply e)
+refused_is self (opened q o) xs ys r why g e = absurd (no_refusal g.reply e)
+refused_is self (agreed b) xs ys r why g e = absurd (no_refusal g.reply e)
+refused_is self failed xs ys r why g e = absurd (no_refusal g.reply e)
+refused_is self released xs ys r why g e = absurd (no_refusal g.reply e)
+refused_is self (request_confused o) xs ys r why g e = absurd (no_refusal g.reply e)
+refused_is self (request_right b o) xs ys r why g e = absurd (no_refusal g.reply e)
+refused_is self (request_wrong o) xs ys r why g e = absurd (no_refusal g.reply e)
 
 -- the endpoint and the buffer are as they were
-pub refusal_alters_nothing : (self : Endpoint) (e : Event) (xs ys : List ℕ) (r : Answer) (n : ℕ) → Did self e xs ys r → r.reply ≡ Refused n → (r.endpoint ≡ self) × (ys ≡ xs)
-refusal_alters_nothing self e xs ys r n did p =
-    let g = subst (λ (v : Verdict). Gave self v xs ys r) (refused_is self _ xs ys r n did p) did in
+pub refusal_alters_nothing : (self : Endpoint) (e : Event) (xs ys : List ℕ) (r : Answer) (why : Refusal) → Did self e xs ys r → r.reply ≡ Err why → (r.endpoint ≡ self) × (ys ≡ xs)
+refusal_alters_nothing self e xs ys r why did p =
+    let g = subst (λ (v : Verdict). Gave self v xs ys r) (refused_is self _ xs ys r why did p) did in
     (g.unaltered, g.out)
 
 -- ---- demand 3: the bearer in force
@@ -84,10 +84,10 @@ bearer_changes self e xs ys r did =
 gave_ruled : (self : Endpoint) (e : Event) (xs ys : List ℕ) (r : Answer) (v : Verdict) → Did self e xs ys r → least_room ≤ length xs → event_verdict (configuration_by self.config) (book_of self) e ≡ v → Gave self v xs ys r
 unfolding rule
 gave_ruled self e xs ys r v did l p =
-    subst (λ (w : Verdict). Gave self w xs ys r) (ap (λ (t : Bool). cond t (refused 4) (event_verdict (configuration_by self.config) (book_of self) e)) (le-ltb (length xs) least_room l) ∙ p) did
+    subst (λ (w : Verdict). Gave self w xs ys r) (ap (λ (t : Bool). cond t (refused BufferTooShort) (event_verdict (configuration_by self.config) (book_of self) e)) (le-ltb (length xs) least_room l) ∙ p) did
 
 -- ---- demand 2: an Accepted puts its bearer in force exactly when it is right
-heard_accepted : (m : List ℕ) (version : ℕ) → length m ≤ most_read → head_in m ≡ Typed version kind.Accepted → heard m ≡ hears.accepted_heard (bearer_in (read_message m))
+heard_accepted : (m : List ℕ) (version : ℕ) → length m ≤ most_read → head_in m ≡ Some (record { version = version; kind = kind.Accepted }) → heard m ≡ hears.accepted_heard (bearer_in (read_message m))
 unfolding heard heard_by
 heard_accepted m version l h = rw (le-leb (length m) most_read l, h)
 
@@ -102,7 +102,7 @@ module _ (c : Configuration) (f : Option Bearer) (q : Stream) where
 
 -- m is an Accepted of any version, not too long, and comes while our Request q is open, with a buffer that is long enough
 pub accepted_exactly : (self : Endpoint) (q : Stream) (m xs ys : List ℕ) (version : ℕ) (r : Answer) → Did self (Event.message m) xs ys r
-    → least_room ≤ length xs → length m ≤ most_read → head_in m ≡ Typed version kind.Accepted → awaited (book_of self) ≡ some q → Takes self q m xs ys r
+    → least_room ≤ length xs → length m ≤ most_read → head_in m ≡ Some (record { version = version; kind = kind.Accepted }) → awaited (book_of self) ≡ some q → Takes self q m xs ys r
 accepted_exactly self q m xs ys version r did room short head awaits =
     record {
       right = λ d e h. let g = gave (agreed d) (accepted_verdict_right c (settled (book_of self)) q (bearer_in (read_message m)) d e h) in (g.book, g.reply, g.out);
@@ -124,7 +124,7 @@ discards self xs ys r g = record { endpoint = g.unaltered; reply = g.reply; out 
 
 -- where no Request of ours is open, it is discarded
 pub accepted_unawaited : (self : Endpoint) (m xs ys : List ℕ) (version : ℕ) (r : Answer) → Did self (Event.message m) xs ys r
-    → least_room ≤ length xs → length m ≤ most_read → head_in m ≡ Typed version kind.Accepted → awaited (book_of self) ≡ none → Discards self xs ys r
+    → least_room ≤ length xs → length m ≤ most_read → head_in m ≡ Some (record { version = version; kind = kind.Accepted }) → awaited (book_of self) ≡ none → Discards self xs ys r
 accepted_unawaited self m xs ys version r did room short head unawaited =
     discards self xs ys r
     (gave_ruled self (Event.message m) xs ys r discarded did room
@@ -132,7 +132,7 @@ accepted_unawaited self m xs ys version r did room short head unawaited =
     ∙ ap (λ (o : Option Stream). if_awaited o (λ x. accepted_verdict (configuration_by self.config) (settled (book_of self)) x (bearer_in (read_message m)))) unawaited))
 
 -- ---- demand 2: a peer's Request is accepted exactly when it is right
-heard_request : (m : List ℕ) → length m ≤ most_read → head_in m ≡ Typed 1 kind.Request → heard m ≡ hears.request_heard (bearer_in (read_message m))
+heard_request : (m : List ℕ) → length m ≤ most_read → head_in m ≡ Some (record { version = 1; kind = kind.Request }) → heard m ≡ hears.request_heard (bearer_in (read_message m))
 unfolding heard heard_by
 heard_request m l h = rw (le-leb (length m) most_read l, h)
 
@@ -168,7 +168,7 @@ module _ (c : Configuration) (right : right_configuration c ≡ true) where
 -- m is a Request of version 1, not too long, and comes where Requests are not discarded, with a buffer that is long enough, to an
 -- endpoint whose configuration is not refused
 pub request_exactly : (self : Endpoint) (m xs ys : List ℕ) (r : Answer) → right_config self.config ≡ true → Did self (Event.message m) xs ys r
-    → least_room ≤ length xs → length m ≤ most_read → head_in m ≡ Typed 1 kind.Request → ignores (book_of self) ≡ false → Judges self m xs ys r
+    → least_room ≤ length xs → length m ≤ most_read → head_in m ≡ Some (record { version = 1; kind = kind.Request }) → ignores (book_of self) ≡ false → Judges self m xs ys r
 unfolding configuration_by
 request_exactly self m xs ys r config did room short head heeds =
     record {
@@ -191,13 +191,13 @@ request_exactly self m xs ys r config did room short head heeds =
         ∙ p)
 
 -- one of another version is heard as such
-heard_other : (m : List ℕ) (version : ℕ) → length m ≤ most_read → head_in m ≡ Typed version kind.Request → (version ≡ 1 → ⊥) → heard m ≡ hears.other_version_heard
+heard_other : (m : List ℕ) (version : ℕ) → length m ≤ most_read → head_in m ≡ Some (record { version = version; kind = kind.Request }) → (version ≡ 1 → ⊥) → heard m ≡ hears.other_version_heard
 unfolding heard heard_by
 heard_other m version l h n = rw (le-leb (length m) most_read l, h, ne_eqb version 1 n)
 
 -- it is answered Confused, where Requests are not discarded
 pub request_confused_lem : (self : Endpoint) (m xs ys : List ℕ) (version : ℕ) (r : Answer) → right_config self.config ≡ true → Did self (Event.message m) xs ys r
-    → least_room ≤ length xs → length m ≤ most_read → head_in m ≡ Typed version kind.Request → (version ≡ 1 → ⊥) → ignores (book_of self) ≡ false → Confuses self xs ys r
+    → least_room ≤ length xs → length m ≤ most_read → head_in m ≡ Some (record { version = version; kind = kind.Request }) → (version ≡ 1 → ⊥) → ignores (book_of self) ≡ false → Confuses self xs ys r
 unfolding configuration_by
 request_confused_lem self m xs ys version r config did room short head other heeds =
     let c = configuration_by self.config in
@@ -210,12 +210,12 @@ request_confused_lem self m xs ys version r config did room short head other hee
 
 -- and any Request is discarded while our set-up is awaited, and at I while our change is
 pub request_ignored : (self : Endpoint) (m xs ys : List ℕ) (version : ℕ) (r : Answer) → Did self (Event.message m) xs ys r
-    → least_room ≤ length xs → length m ≤ most_read → head_in m ≡ Typed version kind.Request → ignores (book_of self) ≡ true → Discards self xs ys r
+    → least_room ≤ length xs → length m ≤ most_read → head_in m ≡ Some (record { version = version; kind = kind.Request }) → ignores (book_of self) ≡ true → Discards self xs ys r
 request_ignored self m xs ys version r did room short head ignored =
     discards self xs ys r
     (gave_ruled self (Event.message m) xs ys r discarded did room
     (by_eq version 1 _
-    (λ e. ap (message_verdict c (book_of self)) (heard_request m short (head ∙ ap (λ (v : ℕ). Typed v kind.Request) e)) ∙ ap (λ (t : Bool). cond t discarded (request_verdict c (settled (book_of self)) (bearer_in (read_message m)))) ignored)
+    (λ e. ap (message_verdict c (book_of self)) (heard_request m short (head ∙ ap (λ (v : ℕ). Some (record { version = v; kind = kind.Request })) e)) ∙ ap (λ (t : Bool). cond t discarded (request_verdict c (settled (book_of self)) (bearer_in (read_message m)))) ignored)
     (λ e. ap (message_verdict c (book_of self)) (heard_other m version short head e) ∙ ap (λ (t : Bool). cond t discarded (answer_confused c)) ignored)))
   where
     c : Configuration
@@ -241,15 +241,18 @@ request_names m d e =
     (λ l. go (head_in m) (rw l at e))
     (λ l. let w : hears.nothing_heard ≡ hears.request_heard d = rw l at e in absurd (let z : ◌≡◌ {A = ℕ} 0 1 = cc in omega arith))
   where
-    go : (y : Head) → heard_by y (read_message m) ≡ hears.request_heard d → d ≡ bearer_in (read_message m)
-    go Untyped w = absurd (let z : ◌≡◌ {A = ℕ} 0 1 = cc in omega arith)
-    go (Typed v kind.Request) w =
+    typed_names : (k : kinds.MessageType) (v : ℕ) → heard_typed k v (read_message m) ≡ hears.request_heard d → d ≡ bearer_in (read_message m)
+    typed_names kind.Request v w =
         by_bool (eqb v 1) _
         (λ t. let x : hears.request_heard (bearer_in (read_message m)) ≡ hears.request_heard d = rw t at w in cc)
         (λ t. let x : hears.other_version_heard ≡ hears.request_heard d = rw t at w in absurd (let z : ◌≡◌ {A = ℕ} 0 1 = cc in omega arith))
-    go (Typed v kind.Accepted) w = absurd (let z : ◌≡◌ {A = ℕ} 0 1 = cc in omega arith)
-    go (Typed v kind.Confused) w = absurd (let z : ◌≡◌ {A = ℕ} 0 1 = cc in omega arith)
-    go (Typed v kind.Rejected) w = absurd (let z : ◌≡◌ {A = ℕ} 0 1 = cc in omega arith)
+    typed_names kind.Accepted v w = absurd (let z : ◌≡◌ {A = ℕ} 0 1 = cc in omega arith)
+    typed_names kind.Confused v w = absurd (let z : ◌≡◌ {A = ℕ} 0 1 = cc in omega arith)
+    typed_names kind.Rejected v w = absurd (let z : ◌≡◌ {A = ℕ} 0 1 = cc in omega arith)
+
+    go : (y : code.Option Head) → heard_by y (read_message m) ≡ hears.request_heard d → d ≡ bearer_in (read_message m)
+    go None w = absurd (let z : ◌≡◌ {A = ℕ} 0 1 = cc in omega arith)
+    go (Some h) w = typed_names h.kind h.version w
 
 if_awaited_answered : (o : Option Stream) (v : Stream → Verdict) → ((q : Stream) → Answered (v q)) → Answered (if_awaited o v)
 if_awaited_answered none v a = tt
@@ -279,10 +282,10 @@ module _ (c : Configuration) (right : right_configuration c ≡ true) (m : List 
   message_verdict_answered k (hears.accepted_heard d) e = if_awaited_answered (awaited k) (λ q. accepted_verdict c (settled k) q d) (λ q. accepted_verdict_answered (settled k) q d)
   message_verdict_answered k hears.decline_heard e = if_awaited_answered (awaited k) (λ q. failed) (λ q. tt)
 
-pub message_answered : (self : Endpoint) (m xs ys : List ℕ) (r : Answer) (n : ℕ) → right_config self.config ≡ true → Did self (Event.message m) xs ys r → least_room ≤ length xs → r.reply ≡ Refused n → ⊥
-message_answered self m xs ys r n config did room e =
+pub message_answered : (self : Endpoint) (m xs ys : List ℕ) (r : Answer) (why : Refusal) → right_config self.config ≡ true → Did self (Event.message m) xs ys r → least_room ≤ length xs → r.reply ≡ Err why → ⊥
+message_answered self m xs ys r why config did room e =
     let g = gave_ruled self (Event.message m) xs ys r _ did room refl in
-    subst Answered (refused_is self _ xs ys r n g e) (message_verdict_answered (configuration_by self.config) (usable self config) m (book_of self) (heard m) refl)
+    subst Answered (refused_is self _ xs ys r why g e) (message_verdict_answered (configuration_by self.config) (usable self config) m (book_of self) (heard m) refl)
 
 -- such a command writes the octets of its Request, and opens it
 pub command_verdict_opens : (c : Configuration) → right_configuration c ≡ true → (entry payload ptime : ℕ) (q : Stream) → commanded c entry payload ptime ≡ some q

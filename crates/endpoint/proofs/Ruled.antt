@@ -8,6 +8,7 @@ use mathlib.Core.List.{List}
 use mathlib.Core.Option.{Option, none, some, none-ne-some}
 use lib.Dec.{ltb, lit≤}
 use native.Mathlib.Omega.{arith}
+use Rattle.octets.specs.declared.Refusal.TheVariants.{BufferTooShort, OutOfRange}
 use Rattle.book.specs.declared.Side.{Side}
 use Rattle.book.specs.declared.Side.TheVariants.{I, R}
 use Rattle.book.specs.Book.{idle, await_setup, up, await_change, ignores, settled}
@@ -57,7 +58,7 @@ either P true v w p q = p
 either P false v w p q = q
 
 -- what holds of number 5, and of the verdict with any octets, holds of a message that is written
-pub if_writable_all : (P : Verdict → Type 0) (o : Option (List ℕ)) (v : List ℕ → Verdict) → P (refused 5) → ((x : List ℕ) → P (v x)) → P (if_writable o v)
+pub if_writable_all : (P : Verdict → Type 0) (o : Option (List ℕ)) (v : List ℕ → Verdict) → P (refused OutOfRange) → ((x : List ℕ) → P (v x)) → P (if_writable o v)
 if_writable_all P none v p q = p
 if_writable_all P (some o) v p q = q o
 
@@ -226,16 +227,16 @@ module _ (c : Configuration) where
   event_verdict_names k (message m) = message_verdict_names k (heard m)
 
   -- ---- number 4 comes first, whatever the book
-  kept_room : (t : Bool) (v w x : Verdict) → (v ≡ x → w ≡ x) → cond t (refused 4) v ≡ x → cond t (refused 4) w ≡ x
+  kept_room : (t : Bool) (v w x : Verdict) → (v ≡ x → w ≡ x) → cond t (refused BufferTooShort) v ≡ x → cond t (refused BufferTooShort) w ≡ x
   kept_room true v w x f h = h
   kept_room false v w x f h = f h
 
-  no_room : (t : Bool) (v x : Verdict) → (refused 4 ≡ x → ⊥) → (v ≡ x → ⊥) → cond t (refused 4) v ≡ x → ⊥
+  no_room : (t : Bool) (v x : Verdict) → (refused BufferTooShort ≡ x → ⊥) → (v ≡ x → ⊥) → cond t (refused BufferTooShort) v ≡ x → ⊥
   no_room true v x f g h = f h
   no_room false v x f g h = g h
 
-  room_which : (n : ℕ) (t : Bool) (v : Verdict) → n ≤ 4 → n ≤ which v → n ≤ which (cond t (refused 4) v)
-  room_which n t v p q = either (λ w. n ≤ which w) t (refused 4) v p q
+  room_which : (n : ℕ) (t : Bool) (v : Verdict) → n ≤ 4 → n ≤ which v → n ≤ which (cond t (refused BufferTooShort) v)
+  room_which n t v p q = either (λ w. n ≤ which w) t (refused BufferTooShort) v p q
 
   room_names : (k : Book) (g : Given) → Names (exchanged c g) (rule c k g)
   unfolding rule

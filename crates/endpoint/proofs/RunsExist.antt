@@ -12,6 +12,9 @@ use lib.Seq.{take_all, drop-append_seam, take-append-le, drop-append-le}
 use lib.Dec.{eqb, leb, ltb, lit≤}
 use native.Mathlib.Omega.{arith}
 use borrow.Author.Tests.{leb-true, le-leb}
+use Rattle.std.specs.Prelude.{Some, None}
+use Rattle.std.specs.Prelude as code
+use Rattle.octets.specs.declared.Refusal.TheVariants.{BufferTooShort}
 use Rattle.octets.specs.declared.Span.{Span}
 use Rattle.octets.specs.Spans.{text_of, inside}
 use Rattle.media.specs.declared.Stream.{Stream as Places}
@@ -19,7 +22,7 @@ use Rattle.media.specs.Stream.{Stream}
 use Rattle.media.specs.Meaning.{spans_of, texts_by, stream_by, all_in, stream_inside}
 use Rattle.ipbcp.specs.declared.MessageType.TheVariants as kind
 use Rattle.ipbcp.specs.declared.Head.{Head}
-use Rattle.ipbcp.specs.declared.Head.TheVariants.{Typed, Untyped}
+use Rattle.ipbcp.specs.declared.MessageType.{MessageType}
 use Rattle.ipbcp.specs.Types.{head_in}
 use Rattle.ipbcp.specs.Reading as reading
 use Rattle.ipbcp.specs.Reading.{Reading, read_message, most_read}
@@ -37,7 +40,7 @@ use Rattle.bearer.specs.declared.Request as ours
 use Rattle.bearer.specs.declared.Bearer as held
 use Rattle.bearer.specs.Bearer.{Bearer}
 use Rattle.bearer.specs.Hearing as hears
-use Rattle.bearer.specs.Hearing.{Heard, bearer_in, heard_by, heard}
+use Rattle.bearer.specs.Hearing.{Heard, bearer_in, heard_typed, heard_by, heard}
 use Rattle.bearer.specs.Judging.{offered, commanded, right_request, restated, granted, accepted_for, right_accepted}
 use Rattle.bearer.specs.Meaning.{request_by, bearer_by}
 use Rattle.endpoint.specs.declared.Endpoint.{Endpoint}
@@ -77,13 +80,16 @@ heard_either : (t : Bool) (x y : Heard) → FewHeard x → FewHeard y → FewHea
 heard_either true x y p q = p
 heard_either false x y p q = q
 
-head_few : (h : Head) (r : Reading) → FewNamed (bearer_in r) → FewHeard (heard_by h r)
+head_few : (h : code.Option Head) (r : Reading) → FewNamed (bearer_in r) → FewHeard (heard_by h r)
 unfolding heard_by
-head_few Untyped r p = tt
-head_few (Typed v kind.Request) r p = heard_either (eqb v 1) (hears.request_heard (bearer_in r)) hears.other_version_heard p tt
-head_few (Typed v kind.Accepted) r p = p
-head_few (Typed v kind.Confused) r p = tt
-head_few (Typed v kind.Rejected) r p = tt
+head_few None r p = tt
+head_few (Some h) r p = typed_few h.kind
+  where
+    typed_few : (k : MessageType) → FewHeard (heard_typed k h.version r)
+    typed_few kind.Request = heard_either (eqb h.version 1) (hears.request_heard (bearer_in r)) hears.other_version_heard p tt
+    typed_few kind.Accepted = p
+    typed_few kind.Confused = tt
+    typed_few kind.Rejected = tt
 
 heard_few : (m : List ℕ) → FewHeard (heard m)
 unfolding heard
@@ -174,7 +180,7 @@ module _ (c : Configuration) where
 
   rule_few : (k : Book) (g : Given) → FewBy (rule c k g)
   unfolding rule
-  rule_few k g = either FewBy (ltb g.room least_room) (refused 4) (event_verdict c k g.event) tt (event_verdict_few k g.event)
+  rule_few k g = either FewBy (ltb g.room least_room) (refused BufferTooShort) (event_verdict c k g.event) tt (event_verdict_few k g.event)
 
 -- ---- texts laid one after another
 -- p is where t stands in m
@@ -279,7 +285,7 @@ module _ (s : Stream) (x y z : List ℕ) where
               transport = transport_at;
               payload = s.payload;
               rtpmap = rtpmap_at;
-              fmtp = record { count = n; first = x_at; second = y_at; third = z_at };
+              fmtp = record { count = n; spans = x_at ∷ y_at ∷ z_at ∷ [] };
               ptime = s.ptime;
             };
         is = λ i. record { media = media_is.is i; port = s.port; transport = transport_is.is i; payload = s.payload; rtpmap = rtpmap_is.is i; fmtp = e i; ptime = s.ptime };

@@ -1,6 +1,7 @@
 -- Demand 3, for the endpoint itself: every list of events on a fresh endpoint, with every message and every buffer.
-use Rattle.std.specs.Prelude.{ℕ, ◌≡◌, true, length, take}
+use Rattle.std.specs.Prelude.{ℕ, ◌≡◌, true, length, take, Result, Ok, Err}
 use mathlib.Core.List.{List, [], ◌∷◌, ◌++◌, map, Sublistᴰ}
+use Rattle.octets.specs.declared.Refusal.{Refusal}
 use Rattle.book.specs.declared.State.TheVariants.{Idle}
 use Rattle.book.specs.Book.{settled, refusal, done}
 use Rattle.book.specs.Book as book
@@ -11,8 +12,7 @@ use Rattle.configuration.specs.Meaning.{configuration_by, right_config}
 use Rattle.bearer.specs.Bearer.{Bearer}
 use Rattle.endpoint.specs.declared.Endpoint.{Endpoint}
 use Rattle.endpoint.specs.declared.Answer.{Answer}
-use Rattle.endpoint.specs.declared.Reply.{Reply}
-use Rattle.endpoint.specs.declared.Reply.TheVariants.{Refused, Done}
+use Rattle.endpoint.specs.declared.Done.{Done}
 use Rattle.endpoint.specs.Rule.{Event, Given, rule, exchanged}
 use Rattle.endpoint.specs.Step.{book_of, Did}
 
@@ -21,9 +21,9 @@ abbrev pub LogLine : Type 0
 LogLine = strike.LogLine Bearer Given
 
 -- what the caller is told: the reply, with the octets at the front of the output buffer
-abbrev pub reply_by : Reply → List ℕ → book.Reply
-reply_by (Refused n) out = refusal n
-reply_by (Done s n w d) out = done s n (take w out) d
+abbrev pub reply_by : Result Done Refusal → List ℕ → book.Reply
+reply_by (Err e) out = refusal e
+reply_by (Ok r) out = done r.state r.notice (take r.written out) r.dropped
 
 -- what is seen of one event, whose buffer held `before` and then `after`
 abbrev pub seen : Event → List ℕ → List ℕ → Answer → LogLine

@@ -3,6 +3,7 @@
 -- Accepted right is in `Judging` there.
 use Rattle.std.specs.Prelude.{ℕ, cond, List, ltb}
 use Rattle.std.proofs.Math.Option.{Option, none, some}
+use Rattle.octets.specs.declared.Refusal.TheVariants.{BufferTooShort, OutOfRange, WrongState}
 use Rattle.book.specs.Book.{idle, await_setup, up, await_change, settled, awaited, ignores}
 use Rattle.book.specs.Book as book
 use Rattle.book.specs.Book.{refused, discarded, opened, agreed, failed, released, request_confused, request_right, request_wrong}
@@ -35,12 +36,12 @@ pub record Given : Type 0 where
 -- The verdict v on the octets of a message that we write; number 5 if a field of it is out of range, which a valid configuration
 -- rules out (`Writable` among the proofs of `bearer`).
 abbrev pub if_writable : Option (List ℕ) → (List ℕ → Verdict) → Verdict
-if_writable none v = refused 5
+if_writable none v = refused OutOfRange
 if_writable (some o) v = v o
 
 -- ---- set-up and change, in the state that they suit: the Request is written, or number 5 if the command has none
 abbrev pub command_verdict : Configuration → Option Stream → Verdict
-command_verdict c none = refused 5
+command_verdict c none = refused OutOfRange
 command_verdict c (some q) = if_writable (message_octets c.own (request_content q)) (λ o. opened q o)
 
 -- ---- an Accepted for our open Request q: a right one settles its bearer, any other ends the attempt
@@ -83,14 +84,14 @@ message_verdict c k decline_heard = if_awaited (awaited k) (λ q. failed)
 -- the verdict on an event whose output buffer is long enough; a command that does not suit the state is refused by 11, before 5
 abbrev pub event_verdict : Configuration → Book → Event → Verdict
 event_verdict c idle (set_up entry payload ptime) = command_verdict c (commanded c entry payload ptime)
-event_verdict c (await_setup q) (set_up entry payload ptime) = refused 11
-event_verdict c (up s b) (set_up entry payload ptime) = refused 11
-event_verdict c (await_change s b q) (set_up entry payload ptime) = refused 11
-event_verdict c idle (change entry payload ptime) = refused 11
-event_verdict c (await_setup q) (change entry payload ptime) = refused 11
+event_verdict c (await_setup q) (set_up entry payload ptime) = refused WrongState
+event_verdict c (up s b) (set_up entry payload ptime) = refused WrongState
+event_verdict c (await_change s b q) (set_up entry payload ptime) = refused WrongState
+event_verdict c idle (change entry payload ptime) = refused WrongState
+event_verdict c (await_setup q) (change entry payload ptime) = refused WrongState
 event_verdict c (up s b) (change entry payload ptime) = command_verdict c (commanded c entry payload ptime)
-event_verdict c (await_change s b q) (change entry payload ptime) = refused 11
-event_verdict c idle release = refused 11
+event_verdict c (await_change s b q) (change entry payload ptime) = refused WrongState
+event_verdict c idle release = refused WrongState
 event_verdict c (await_setup q) release = released
 event_verdict c (up s b) release = released
 event_verdict c (await_change s b q) release = released
@@ -110,7 +111,7 @@ least_room = 512
 
 -- the verdict on an event: number 4 comes before all else
 unfoldable pub rule : Configuration → Book → Given → Verdict
-rule c k g = cond (ltb g.room least_room) (refused 4) (event_verdict c k g.event)
+rule c k g = cond (ltb g.room least_room) (refused BufferTooShort) (event_verdict c k g.event)
 
 -- ---- the bearer that an event puts in force if its exchange succeeds
 -- for a Request the one that we grant, for an Accepted the one that it names

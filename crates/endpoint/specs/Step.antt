@@ -1,9 +1,11 @@
 -- What the public functions of this crate promise: what a new endpoint is, and what an event does to an endpoint.
-use Rattle.std.specs.Prelude.{ℕ, ◌≡◌, true, List, ◌++◌, length, drop, replicate}
+use Rattle.std.specs.Prelude.{ℕ, ◌≡◌, Bool, true, List, ◌++◌, length, drop, replicate, Result, Ok, Err}
+use Rattle.octets.specs.declared.Refusal.{Refusal}
 use Rattle.book.specs.declared.State.{State}
 use Rattle.book.specs.declared.State.TheVariants.{Idle, AwaitSetup, Up, AwaitChange}
 use Rattle.book.specs.declared.Side.{Side}
 use Rattle.book.specs.declared.Side.TheVariants.{I}
+use Rattle.book.specs.declared.Notice.{Notice}
 use Rattle.book.specs.Book.{idle, await_setup, up, await_change, refused, discarded, opened, agreed, failed, released, request_confused, request_right, request_wrong}
 use Rattle.book.specs.Book.{refusal, done, moved, replied}
 use Rattle.book.specs.Book as book
@@ -19,8 +21,7 @@ use Rattle.bearer.specs.Meaning.{most_offered, request_by, bearer_by, request_in
 use Rattle.endpoint.specs.declared.Endpoint.{Endpoint}
 use Rattle.endpoint.specs.declared.Created.{Created}
 use Rattle.endpoint.specs.declared.Answer.{Answer}
-use Rattle.endpoint.specs.declared.Reply.{Reply}
-use Rattle.endpoint.specs.declared.Reply.TheVariants.{Refused, Done}
+use Rattle.endpoint.specs.declared.Done.{Done}
 use Rattle.endpoint.specs.declared.Event as code
 use Rattle.endpoint.specs.declared.Event.TheVariants.{SetUp, Change, Release, T1, T2, Message}
 use Rattle.endpoint.specs.Rule.{Book, Verdict, Event, set_up, change, release, t1, t2, message, rule}
@@ -71,10 +72,14 @@ event_by T1 m = t1
 event_by T2 m = t2
 event_by Message m = message m
 
+-- what the code replies to an event that is not refused
+abbrev pub told : State → Notice → ℕ → Bool → Result Done Refusal
+told s n w d = Ok (record { state = s; notice = n; written = w; dropped = d })
+
 -- the code's form of a reply: the octets are in the output buffer, and the reply has their number
-abbrev pub reply_for : book.Reply → Reply
-reply_for (refusal n) = Refused n
-reply_for (done s n o d) = Done s n (length o) d
+abbrev pub reply_for : book.Reply → Result Done Refusal
+reply_for (refusal e) = Err e
+reply_for (done s n o d) = told s n (length o) d
 
 -- xs with the octets o at its front; past them it is unchanged
 abbrev pub written : List ℕ → List ℕ → List ℕ
@@ -82,12 +87,12 @@ written o xs = o ++ drop (length o) xs
 
 -- the output buffer xs after a reply
 abbrev pub out_for : book.Reply → List ℕ → List ℕ
-out_for (refusal n) xs = xs
+out_for (refusal e) xs = xs
 out_for (done s n o d) xs = written o xs
 
 -- an event that is refused, discarded or answered Confused leaves the endpoint as it was, in every field
 abbrev pub Unaltered : Verdict → Endpoint → Endpoint → Type 0
-Unaltered (refused n) self r = r ≡ self
+Unaltered (refused e) self r = r ≡ self
 Unaltered discarded self r = r ≡ self
 Unaltered (opened q o) self r = Unit {0}
 Unaltered (agreed b) self r = Unit {0}

@@ -1,12 +1,11 @@
 // Commands from call control.
 ghost use Rattle.std.proofs.Math.Option.{some};
-ghost use Rattle.std.specs.Prelude.{◌≤◌, length};
 ghost use Rattle.bearer.specs.Judging.{commanded};
 ghost use Rattle.bearer.specs.Meaning.{request_by};
 ghost use Rattle.configuration.specs.Meaning.{configuration_by};
-ghost use Rattle.endpoint.specs.Rule.{Event, command_verdict, least_room};
+ghost use Rattle.endpoint.specs.Rule.{Event, command_verdict};
 ghost use Rattle.endpoint.specs.Step.{Gave, Did};
-ghost use Rattle.endpoint.specs.Private.{Offerable};
+ghost use Rattle.endpoint.specs.Private.{Offerable, InRoom, in_state};
 
 use crate::{Answer, Endpoint, LEAST_ROOM};
 use bearer::Request;
@@ -14,7 +13,7 @@ use book::State;
 use ipbcp::Body;
 use ipbcp_write::write_message;
 use judge::commands::request_for;
-use octets::Put;
+use octets::Refusal;
 
 impl Endpoint {
     // Writes the Request, and opens it.
@@ -22,62 +21,41 @@ impl Endpoint {
         requires { Offerable request out.old }
         ensures { Gave self (command_verdict (configuration_by self.config) (some (request_by request))) out.old out.new result }
     {
-        let config = self.config;
-        let own = config.own;
-        let stream = request.stream;
-        let text = request.text;
-        let put = write_message(Body::Request(stream), own, &text, out);
-        match put {
-            Put::Octets(n) => self.opened(request, n),
-            Put::Refused(n) => self.refused(n),
+        let body = Body::Request(request.stream);
+        match write_message(body, self.config.own, &request.text, out) {
+            Ok(n) => self.opened(request, n),
+            Err(e) => self.refused(e),
         }
     }
 
-    // A set-up in idle or a change in up.
-    fn command(self, entry: u16, payload: u16, ptime: u16, out: &mut [u8]) -> Answer
-        requires { least_room ≤ length out.old }
-        ensures { Gave self (command_verdict (configuration_by self.config) (commanded (configuration_by self.config) entry payload ptime)) out.old out.new result }
+    // A command for a Request: a set-up, which suits idle, or a change, which suits up.
+    fn command(self, suited: State, entry: u16, payload: u16, ptime: u16, out: &mut [u8]) -> Answer
+        ensures { InRoom self (in_state self.state suited (command_verdict (configuration_by self.config) (commanded (configuration_by self.config) entry payload ptime))) out.old out.new result }
     {
-        let config = self.config;
-        let made = request_for(config, entry, payload, ptime);
-        let suits = made.suits;
-        let request = made.request;
-        if suits {
-            return self.offer(request, out);
+        if out.len() < LEAST_ROOM {
+            return self.refused(Refusal::BufferTooShort);
         }
-        self.refused(5)
+        if self.state != suited {
+            return self.refused(Refusal::WrongState);
+        }
+        match request_for(self.config, entry, payload, ptime) {
+            Some(request) => self.offer(request, out),
+            None => self.refused(Refusal::OutOfRange),
+        }
     }
 
     // Call control sets up a bearer: it names a codec entry, a payload and a packet time.
     pub fn set_up(self, entry: u16, payload: u16, ptime: u16, out: &mut [u8]) -> Answer
         ensures { Did self (Event.set_up entry payload ptime) out.old out.new result }
     {
-        if out.len() < LEAST_ROOM {
-            return self.refused(4);
-        }
-        let state = self.state;
-        match state {
-            State::Idle => self.command(entry, payload, ptime, out),
-            State::AwaitSetup => self.refused(11),
-            State::Up => self.refused(11),
-            State::AwaitChange => self.refused(11),
-        }
+        self.command(State::Idle, entry, payload, ptime, out)
     }
 
     // Call control changes the bearer in force.
     pub fn change(self, entry: u16, payload: u16, ptime: u16, out: &mut [u8]) -> Answer
         ensures { Did self (Event.change entry payload ptime) out.old out.new result }
     {
-        if out.len() < LEAST_ROOM {
-            return self.refused(4);
-        }
-        let state = self.state;
-        match state {
-            State::Idle => self.refused(11),
-            State::AwaitSetup => self.refused(11),
-            State::Up => self.command(entry, payload, ptime, out),
-            State::AwaitChange => self.refused(11),
-        }
+        self.command(State::Up, entry, payload, ptime, out)
     }
 
     // Call control releases the bearer, or ends the attempt to set one up.
@@ -85,14 +63,11 @@ impl Endpoint {
         ensures { Did self Event.release out.old out.new result }
     {
         if out.len() < LEAST_ROOM {
-            return self.refused(4);
+            return self.refused(Refusal::BufferTooShort);
         }
-        let state = self.state;
-        match state {
-            State::Idle => self.refused(11),
-            State::AwaitSetup => self.released(),
-            State::Up => self.released(),
-            State::AwaitChange => self.released(),
+        if self.state == State::Idle {
+            return self.refused(Refusal::WrongState);
         }
+        self.released()
     }
 }

@@ -7,16 +7,18 @@ mod timers;
 mod verdicts;
 
 ghost use Rattle.std.specs.Prelude.{◌≡◌};
-ghost use Rattle.endpoint.specs.Step.{blank_stream, Creates, event_by, Did};
+ghost use Rattle.book.specs.Book.{settled};
+ghost use Rattle.bearer.specs.Meaning.{in_force_by};
+ghost use Rattle.endpoint.specs.Step.{book_of, blank_stream, Creates, event_by, Did};
 
 use address::Address;
 use bearer::{Bearer, MOST_OFFERED, Request};
-use book::{Notice, Side, State};
+use book::{Notice, Side, State, holds};
+use configuration::Config;
 use configuration::check::check;
-use configuration::{Checked, Config};
 use ipbcp::MOST_READ;
 use media::Stream;
-use octets::Span;
+use octets::{Refusal, Span};
 
 // The shortest output buffer that is taken.
 pub const LEAST_ROOM: usize = 512;
@@ -32,24 +34,21 @@ pub struct Endpoint {
     pub bearer: Bearer,
 }
 
-// The reply to an event: document 01's number; or the state after it, the notice, the number of octets at the front of the output
-// buffer, and whether the peer's Request cancelled our pending change.
+// What an event did that is not refused: the state after it, the notice, the number of octets at the front of the output buffer,
+// and whether the peer's Request cancelled our pending change.
 #[derive(Clone, Copy)]
-pub enum Reply {
-    Refused(u8),
-    Done {
-        state: State,
-        notice: Notice,
-        written: usize,
-        dropped: bool,
-    },
+pub struct Done {
+    pub state: State,
+    pub notice: Notice,
+    pub written: usize,
+    pub dropped: bool,
 }
 
-// The endpoint after an event, and the reply.
+// The endpoint after an event, and the reply. A refusal leaves the endpoint as it was.
 #[derive(Clone, Copy)]
 pub struct Answer {
     pub endpoint: Endpoint,
-    pub reply: Reply,
+    pub reply: Result<Done, Refusal>,
 }
 
 // An event as a value, for `handle`, which takes the octets of a message beside it.
@@ -68,7 +67,7 @@ pub enum Event {
 // take a valid configuration do not apply.
 #[derive(Clone, Copy)]
 pub struct Created {
-    pub checked: Checked,
+    pub checked: Result<(), Refusal>,
     pub endpoint: Endpoint,
 }
 
@@ -81,31 +80,38 @@ fn blank_stream() -> Stream
 }
 
 impl Endpoint {
-    // A new endpoint, and document 01's number 12 if the configuration is not valid.
+    // A new endpoint, and a refusal if the configuration is not valid.
     pub fn new(config: Config) -> Created
         ensures { Creates config result }
     {
         let stream = blank_stream();
-        let offered = [0u8; MOST_OFFERED];
-        let text = [0u8; MOST_READ];
-        let checked = check(config);
         Created {
-            checked,
+            checked: check(config),
             endpoint: Endpoint {
                 config,
                 state: State::Idle,
                 side: Side::I,
                 request: Request {
                     stream,
-                    text: offered,
+                    text: [0; MOST_OFFERED],
                 },
                 bearer: Bearer {
                     address: Address::V4(0),
                     stream,
-                    text,
+                    text: [0; MOST_READ],
                 },
             },
         }
+    }
+
+    // The bearer in force, if there is one.
+    pub fn in_force(&self) -> Option<&Bearer>
+        ensures { in_force_by result ≡ settled (book_of self.now) }
+    {
+        if holds(self.state) {
+            return Some(&self.bearer);
+        }
+        None
     }
 
     // Any event; m is the message of `Event::Message`, ignored for other events.

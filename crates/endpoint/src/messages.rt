@@ -1,25 +1,22 @@
 // Messages from the peer.
-ghost use Rattle.std.proofs.Math.Option.{none, some};
-ghost use Rattle.std.specs.Prelude.{◌≤◌, length};
+ghost use Rattle.std.specs.Prelude.{◌≤◌, length, IfSome};
 ghost use Rattle.book.specs.Book.{awaited, Verdict};
 ghost use Rattle.bearer.specs.Hearing as hears;
-ghost use Rattle.bearer.specs.Meaning.{named_by};
+ghost use Rattle.bearer.specs.Meaning.{named_by, named_if};
 ghost use Rattle.configuration.specs.Meaning.{configuration_by};
 ghost use Rattle.endpoint.specs.Rule.{Event, if_awaited, answer_confused, answer_rejected, answer_accepted, message_verdict, least_room};
 ghost use Rattle.endpoint.specs.Step.{book_of, Gave, Did};
 ghost use Rattle.endpoint.specs.Private.{Silent, Heeds, Readable, Answerable};
 
 use crate::{Answer, Endpoint, LEAST_ROOM};
-use address::Address;
 use bearer::{Heard, hold, restate};
-use book::{awaits, holds, ignores};
-use ipbcp::Body;
+use book::{awaits, ignores};
+use ipbcp::{Body, Description};
 use ipbcp_write::write_message;
 use judge::accepteds::right_accepted;
 use judge::hearing::hear;
 use judge::requests::{nearest_time, right_request};
-use media::Stream;
-use octets::Put;
+use octets::Refusal;
 
 impl Endpoint {
     // Answers with a Confused.
@@ -27,12 +24,9 @@ impl Endpoint {
         requires { least_room ≤ length out.old }
         ensures { Gave self (answer_confused (configuration_by self.config)) out.old out.new result }
     {
-        let config = self.config;
-        let own = config.own;
-        let put = write_message(Body::Confused, own, b"", out);
-        match put {
-            Put::Octets(n) => self.request_confused(n),
-            Put::Refused(n) => self.refused(n),
+        match write_message(Body::Confused, self.config.own, b"", out) {
+            Ok(n) => self.request_confused(n),
+            Err(e) => self.refused(e),
         }
     }
 
@@ -41,29 +35,26 @@ impl Endpoint {
         requires { least_room ≤ length out.old }
         ensures { Gave self (answer_rejected (configuration_by self.config)) out.old out.new result }
     {
-        let config = self.config;
-        let own = config.own;
-        let put = write_message(Body::Rejected, own, b"", out);
-        match put {
-            Put::Octets(n) => self.request_wrong(n),
-            Put::Refused(n) => self.refused(n),
+        match write_message(Body::Rejected, self.config.own, b"", out) {
+            Ok(n) => self.request_wrong(n),
+            Err(e) => self.refused(e),
         }
     }
 
-    // Answers a right Request with an Accepted: own port, the packet time moved into range, the rest copied from m.
-    fn accept(self, address: Address, s: Stream, m: &[u8], out: &mut [u8]) -> Answer
-        requires { Answerable m.now s out.old }
-        ensures { Gave self (answer_accepted (configuration_by self.config) (named_by m.now address s)) out.old out.new result }
+    // Answers a right Request, which says d, with an Accepted: own port, the packet time moved into range, the rest copied from m.
+    fn accept(self, d: Description, m: &[u8], out: &mut [u8]) -> Answer
+        requires { Answerable m.now d out.old }
+        ensures { Gave self (answer_accepted (configuration_by self.config) (named_by m.now d)) out.old out.new result }
     {
-        let config = self.config;
-        let own = config.own;
-        let ptime = nearest_time(config, s.ptime);
-        let bearer = hold(address, restate(s, s.port, ptime), m);
-        let answer = restate(s, config.port, ptime);
-        let put = write_message(Body::Accepted(answer), own, m, out);
-        match put {
-            Put::Octets(n) => self.request_right(bearer, n),
-            Put::Refused(n) => self.refused(n),
+        let ptime = nearest_time(self.config, d.stream.ptime);
+        let granted = Description {
+            stream: restate(d.stream, d.stream.port, ptime),
+            ..d
+        };
+        let answer = restate(d.stream, self.config.port, ptime);
+        match write_message(Body::Accepted(answer), self.config.own, m, out) {
+            Ok(n) => self.request_right(hold(granted, m), n),
+            Err(e) => self.refused(e),
         }
     }
 
@@ -72,72 +63,41 @@ impl Endpoint {
         requires { least_room ≤ length out.old }
         ensures { Heeds self hears.other_version_heard out.old out.new result }
     {
-        let state = self.state;
-        let side = self.side;
-        if ignores(state, side) {
+        if ignores(self.state, self.side) {
             return self.discarded();
         }
         self.confuse(out)
     }
 
-    // A Request that can't be read to its end.
-    fn hear_bad(self, out: &mut [u8]) -> Answer
-        requires { least_room ≤ length out.old }
-        ensures { Heeds self (hears.request_heard none) out.old out.new result }
+    // A Request, and what it says if it can be read to its end, with its texts in m.
+    fn hear_request(self, description: Option<Description>, m: &[u8], out: &mut [u8]) -> Answer
+        requires room { least_room ≤ length out.old }
+        requires readable { IfSome description (λ d. Readable m.now d) }
+        ensures { Heeds self (hears.request_heard (named_if m.now description)) out.old out.new result }
     {
-        let state = self.state;
-        let side = self.side;
-        if ignores(state, side) {
+        if ignores(self.state, self.side) {
             return self.discarded();
         }
-        self.reject(out)
+        match description {
+            Some(d) if right_request(self.config, self.in_force(), d, m) => self.accept(d, m, out),
+            _ => self.reject(out),
+        }
     }
 
-    // A Request with this address and stream, whose texts are in m.
-    fn hear_request(self, address: Address, s: Stream, m: &[u8], out: &mut [u8]) -> Answer
-        requires { Answerable m.now s out.old }
-        ensures { Heeds self (hears.request_heard (some (named_by m.now address s))) out.old out.new result }
+    // An Accepted, and what it says if it is of version 1 and can be read to its end, with its texts in m.
+    fn hear_accepted(self, description: Option<Description>, m: &[u8]) -> Answer
+        requires { IfSome description (λ d. Readable m.now d) }
+        ensures { Silent self (message_verdict (configuration_by self.config) (book_of self) (hears.accepted_heard (named_if m.now description))) result }
     {
-        let state = self.state;
-        let side = self.side;
-        if ignores(state, side) {
+        if !awaits(self.state) {
             return self.discarded();
         }
-        let config = self.config;
-        let bearer = self.bearer;
-        if right_request(config, holds(state), bearer, address, s, m) {
-            return self.accept(address, s, m, out);
-        }
-        self.reject(out)
-    }
-
-    // An Accepted with this address and stream, whose texts are in m.
-    fn hear_accepted(self, address: Address, s: Stream, m: &[u8]) -> Answer
-        requires { Readable m.now s }
-        ensures { Silent self (message_verdict (configuration_by self.config) (book_of self) (hears.accepted_heard (some (named_by m.now address s)))) result }
-    {
-        let state = self.state;
-        if awaits(state) {
-            let config = self.config;
-            let bearer = self.bearer;
-            let request = self.request;
-            if right_accepted(config, holds(state), bearer, request, address, s, m) {
-                return self.agreed(hold(address, s, m));
+        match description {
+            Some(d) if right_accepted(self.config, self.in_force(), self.request, d, m) => {
+                self.agreed(hold(d, m))
             }
-            return self.failed();
+            _ => self.failed(),
         }
-        self.discarded()
-    }
-
-    // An answer that ends our attempt, if one is open.
-    fn hear_declined(self) -> Answer
-        ensures { Silent self (if_awaited (awaited (book_of self)) (λ q. Verdict.failed)) result }
-    {
-        let state = self.state;
-        if awaits(state) {
-            return self.failed();
-        }
-        self.discarded()
     }
 
     // A message has arrived.
@@ -145,17 +105,14 @@ impl Endpoint {
         ensures { Did self (Event.message m.now) out.old out.new result }
     {
         if out.len() < LEAST_ROOM {
-            return self.refused(4);
+            return self.refused(Refusal::BufferTooShort);
         }
-        let heard = hear(m);
-        match heard {
+        match hear(m) {
             Heard::Unreadable => self.discarded(),
             Heard::OtherRequest => self.hear_other(out),
-            Heard::BadRequest => self.hear_bad(out),
-            Heard::Request { address, stream } => self.hear_request(address, stream, m, out),
-            Heard::BadAccepted => self.hear_declined(),
-            Heard::Accepted { address, stream } => self.hear_accepted(address, stream, m),
-            Heard::Declined => self.hear_declined(),
+            Heard::Request(description) => self.hear_request(description, m, out),
+            Heard::Accepted(description) => self.hear_accepted(description, m),
+            Heard::Declined => self.failed_if(awaits(self.state)),
         }
     }
 }

@@ -1,11 +1,20 @@
--- `Endpoint::command` meets its contract: the Request is offered if the command has one, otherwise number 5.
+-- `Endpoint::command` meets its contract.
 -- Assumes nothing.
 use borrow.Author.Rules.{rules}
-use Rattle.endpoint.proofs.EventLaws.{command_right, command_wrong}
+use Rattle.endpoint.proofs.EventLaws.{in_room_short, suited, unsuited, command_offerable, command_right, command_wrong}
 use Rattle.endpoint.proofs.Endpoint.command.Goals as goal
 
-pub returns-then-suits : goal.returns-then-suits
-returns-then-suits c = search (command_right, command_wrong, rules)
+pub returns-then-out-lt-LEAST_ROOM : goal.returns-then-out-lt-LEAST_ROOM
+returns-then-out-lt-LEAST_ROOM c = search (in_room_short, rules)
 
-pub returns : goal.returns
-returns c = search (command_right, command_wrong, rules)
+pub returns-then-ne : goal.returns-then-ne
+returns-then-ne c = search (unsuited, rules)
+
+pub offer-requires : goal.offer-requires
+offer-requires c = search (command_offerable, rules)
+
+pub returns-in-Some : goal.returns-in-Some
+returns-in-Some c = search (suited, command_right, rules)
+
+pub returns-in-None : goal.returns-in-None
+returns-in-None c = search (suited, command_wrong, rules)

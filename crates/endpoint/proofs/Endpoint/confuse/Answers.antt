@@ -1,13 +1,13 @@
--- `Endpoint::confuse` meets its contract: the writer's octets are the Confused's, or it refuses by 5.
+-- `Endpoint::confuse` meets its contract.
 -- Assumes nothing.
 use borrow.Author.Rules.{rules}
 use Rattle.endpoint.proofs.EventLaws.{if_writable_octets, if_writable_refused}
 use Rattle.endpoint.proofs.Endpoint.confuse.Goals as goal
 
-pub returns-in-Octets : goal.returns-in-Octets
+pub returns-in-Ok : goal.returns-in-Ok
 unfolding Rattle.configuration.specs.Meaning.configuration_by Rattle.ipbcp.specs.Meaning.content_in
-returns-in-Octets c = search (if_writable_octets, if_writable_refused, rules)
+returns-in-Ok c = search (if_writable_octets, rules)
 
-pub returns-in-Refused : goal.returns-in-Refused
+pub returns-in-Err : goal.returns-in-Err
 unfolding Rattle.configuration.specs.Meaning.configuration_by Rattle.ipbcp.specs.Meaning.content_in
-returns-in-Refused c = search (if_writable_octets, if_writable_refused, rules)
+returns-in-Err c = search (if_writable_refused, rules)

@@ -1,20 +1,14 @@
--- `Endpoint::release` meets its contract: by the state, if the buffer is long enough.
+-- `Endpoint::release` meets its contract.
 -- Assumes nothing.
 use borrow.Author.Rules.{rules}
-use Rattle.endpoint.proofs.EventLaws.{did_short, did_silent}
+use Rattle.endpoint.proofs.EventLaws.{short_release, idle_release, busy_release}
 use Rattle.endpoint.proofs.Endpoint.release.Goals as goal
 
 pub returns-then-out-lt-LEAST_ROOM : goal.returns-then-out-lt-LEAST_ROOM
-returns-then-out-lt-LEAST_ROOM c = search (did_short, did_silent, rules)
+returns-then-out-lt-LEAST_ROOM c = search (short_release, rules)
 
-pub returns-in-Idle : goal.returns-in-Idle
-returns-in-Idle c = search (did_short, did_silent, rules)
+pub returns-then-eq : goal.returns-then-eq
+returns-then-eq c = search (idle_release, rules)
 
-pub returns-in-AwaitSetup : goal.returns-in-AwaitSetup
-returns-in-AwaitSetup c = search (did_short, did_silent, rules)
-
-pub returns-in-Up : goal.returns-in-Up
-returns-in-Up c = search (did_short, did_silent, rules)
-
-pub returns-in-AwaitChange : goal.returns-in-AwaitChange
-returns-in-AwaitChange c = search (did_short, did_silent, rules)
+pub returns : goal.returns
+returns c = search (busy_release, rules)
