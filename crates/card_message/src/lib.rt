@@ -11,20 +11,9 @@ use ipbcp::Message;
 pub fn card_message_read(m: &[u8]) -> u32
     ensures { result ≡ reading_for_c (read_message m.now) }
 {
-    let x = ipbcp::read(m);
-    match x {
-        Message::Refused(n) => n as u32,
-        Message::Typed {
-            version: _,
-            kind: _,
-        } => 256,
-        Message::Described {
-            kind: _,
-            address: _,
-            stream,
-        } => {
-            let port = stream.port;
-            1000 + port as u32
-        }
+    match ipbcp::read(m) {
+        Err(e) => e.number() as u32,
+        Ok(Message::Typed { .. }) => 256,
+        Ok(Message::Described { description, .. }) => 1000 + description.stream.port as u32,
     }
 }

@@ -5,8 +5,9 @@ use mathlib.Core.Path.{◌≡◌, refl, ap}
 use mathlib.Core.List.{List}
 use mathlib.Core.Option.{Option, none, some, map}
 use native.Mathlib.Omega.{arith}
-use Rattle.octets.specs.declared.Put.{Put}
-use Rattle.octets.specs.declared.Put.TheVariants.{Octets, Refused}
+use Rattle.std.specs.Prelude.{Result, Ok, Err}
+use Rattle.octets.specs.declared.Refusal.{Refusal}
+use Rattle.octets.specs.Refusals.{refusal_number}
 use Rattle.octets.specs.Puts.{Puts, refused_from}
 use Rattle.address.specs.declared.Address.{Address}
 use Rattle.media.specs.declared.Stream as code
@@ -16,6 +17,7 @@ use Rattle.ipbcp.specs.declared.MessageType.{MessageType}
 use Rattle.ipbcp.specs.declared.MessageType.TheVariants.{Request, Accepted, Confused, Rejected}
 use Rattle.ipbcp.specs.declared.Body.{Body}
 use Rattle.ipbcp.specs.declared.Body.TheVariants as body
+use Rattle.ipbcp.specs.declared.Description.{Description}
 use Rattle.ipbcp.specs.declared.Message.{Message}
 use Rattle.ipbcp.specs.declared.Message.TheVariants as answer
 use Rattle.ipbcp.specs.Reading.{Reading, refused, typed, described}
@@ -54,45 +56,45 @@ body_rejected k s e = rw e
 pub ruleset bodies = (body_request, body_accepted, body_confused, body_rejected)
 
 -- a writer's answer
-pub code_octets : (r : Put) (n : ℕ) → r ≡ Octets n → n ≡ put_for_c r
+pub code_octets : (r : Result ℕ Refusal) (n : ℕ) → r ≡ Ok n → n ≡ put_for_c r
 code_octets r n e = rw e
 
-pub code_refused : (r : Put) (n : ℕ) → r ≡ Refused n → refused_from + n ≡ put_for_c r
-code_refused r n e = rw e
+pub code_refused : (r : Result ℕ Refusal) (e : Refusal) → r ≡ Err e → (n : ℕ) → n ≡ refusal_number e → refused_from + n ≡ put_for_c r
+code_refused r e h n p = rw (h, p)
 
 pub ruleset codes = (code_octets, code_refused)
 
-module _ (m : List ℕ) (x : Message) (r : Reading) (is : reading_in m x ≡ some r) (l : List ℕ) where
-  pub rewrites_refused : (n : ℕ) → x ≡ answer.Refused n → Rewrites r l (refused_from + n) l
+module _ (m : List ℕ) (x : Result Message Refusal) (r : Reading) (is : reading_in m x ≡ some r) (l : List ℕ) where
+  pub rewrites_refused : (e : Refusal) → x ≡ Err e → (c : ℕ) → c ≡ put_for_c (Err e) → Rewrites r l c l
   unfolding reading_in rewrite_for_c buffer_after_rewrite
-  rewrites_refused n e =
-      let q : some (refused n) ≡ some r = rw e at is in
-      let z : refused n ≡ r = cc in
-      record { answers = rw (← z); leaves = rw (← z) }
+  rewrites_refused e h c p =
+      let q : some (refused e) ≡ some r = rw h at is in
+      let z : refused e ≡ r = cc in
+      record { answers = rw (← z) p; leaves = rw (← z) }
 
-  pub rewrites_typed : (v : ℕ) (k : MessageType) → x ≡ answer.Typed v k → Rewrites r l 0 l
+  pub rewrites_typed : (v : ℕ) (k : MessageType) → x ≡ Ok (answer.Typed v k) → Rewrites r l 0 l
   unfolding reading_in rewrite_for_c buffer_after_rewrite
   rewrites_typed v k e =
       let q : some (typed v k) ≡ some r = rw e at is in
       let z : typed v k ≡ r = cc in
       record { answers = rw (← z); leaves = rw (← z) }
 
-  described_in : (k : MessageType) (a : Address) (s : code.Stream) → x ≡ answer.Described k a s → (o : Option Stream) → stream_in m s ≡ o → (p : Put) (f : List ℕ)
-      → Puts (map packet_text (message_octets_in a (content_in m (body_of k s)))) l p f → Rewrites r l (put_for_c p) f
+  described_in : (k : MessageType) (d : Description) → x ≡ Ok (answer.Described k d) → (o : Option Stream) → stream_in m d.stream ≡ o → (p : Result ℕ Refusal) (f : List ℕ)
+      → Puts (map packet_text (message_octets_in d.address (content_in m (body_of k d.stream)))) l p f → Rewrites r l (put_for_c p) f
   unfolding reading_in rewrite_for_c buffer_after_rewrite
-  described_in k a s e none n p f w =
+  described_in k d e none n p f w =
       let q : none ≡ some r = rw (e, n) at is in
       absurd (let z : ◌≡◌ {A = ℕ} 0 1 = cc in omega arith)
-  described_in k a s e (some t) n p f w =
-      let q : some (described k a t) ≡ some r = rw (e, n) at is in
-      let z : described k a t ≡ r = cc in
-      let u : Puts (packet_of k a t) l p f = rw (written a m k s t n) at w in
+  described_in k d e (some t) n p f w =
+      let q : some (described k d.address t) ≡ some r = rw (e, n) at is in
+      let z : described k d.address t ≡ r = cc in
+      let u : Puts (packet_of k d.address t) l p f = rw (written d.address m k d.stream t n) at w in
       record { answers = rw (← z) (ap put_for_c u.answers); leaves = rw (← z) u.leaves }
 
-  pub rewrites_described : (k : MessageType) (a : Address) (s : code.Stream) → x ≡ answer.Described k a s → (b : Body) → b ≡ body_of k s → (p : Put) (f : List ℕ)
-      → Puts (map packet_text (message_octets_in a (content_in m b))) l p f → (c : ℕ) → c ≡ put_for_c p → Rewrites r l c f
-  rewrites_described k a s e b g p f w c h =
-      let u : Puts (map packet_text (message_octets_in a (content_in m (body_of k s)))) l p f = rw g at w in
-      rw h (described_in k a s e (stream_in m s) refl p f u)
+  pub rewrites_described : (k : MessageType) (d : Description) → x ≡ Ok (answer.Described k d) → (b : Body) → b ≡ body_of k d.stream → (p : Result ℕ Refusal) (f : List ℕ)
+      → Puts (map packet_text (message_octets_in d.address (content_in m b))) l p f → (c : ℕ) → c ≡ put_for_c p → Rewrites r l c f
+  rewrites_described k d e b g p f w c h =
+      let u : Puts (map packet_text (message_octets_in d.address (content_in m (body_of k d.stream)))) l p f = rw g at w in
+      rw h (described_in k d e (stream_in m d.stream) refl p f u)
 
 pub ruleset rewrites = (rewrites_refused, rewrites_typed, rewrites_described)

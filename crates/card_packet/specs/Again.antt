@@ -1,9 +1,9 @@
 -- A message is read and written again: in a tunnel packet, in the form in which the card writes messages, with the address
 -- of its `c=` as the own address. For C an answer is one number.
-use Rattle.std.specs.Prelude.{ℕ, ◌+◌, ◌≡◌, List, length}
+use Rattle.std.specs.Prelude.{ℕ, ◌+◌, ◌≡◌, List, length, Result, Ok, Err}
 use Rattle.std.proofs.Math.Option.{Option, map}
-use Rattle.octets.specs.declared.Put.{Put}
-use Rattle.octets.specs.declared.Put.TheVariants.{Octets, Refused}
+use Rattle.octets.specs.declared.Refusal.{Refusal}
+use Rattle.octets.specs.Refusals.{refusal_number}
 use Rattle.octets.specs.Puts.{put_answer, put_leaves, refused_from}
 use Rattle.address.specs.declared.Address.{Address}
 use Rattle.media.specs.Stream.{Stream}
@@ -25,19 +25,19 @@ unfoldable pub packet_of : MessageType → Address → Stream → Option (List �
 packet_of kind address stream = map packet_text (message_octets address (content_of kind stream))
 
 -- a writer's answer for C (`refused_from`)
-abbrev pub put_for_c : Put → ℕ
-put_for_c (Octets n) = n
-put_for_c (Refused n) = refused_from + n
+abbrev pub put_for_c : Result ℕ Refusal → ℕ
+put_for_c (Ok n) = n
+put_for_c (Err e) = refused_from + refusal_number e
 
 -- the answer for a buffer of so many octets; for a version and type alone nothing is written
 unfoldable pub rewrite_for_c : ℕ → Reading → ℕ
-rewrite_for_c room (refused n) = refused_from + n
+rewrite_for_c room (refused e) = refused_from + refusal_number e
 rewrite_for_c room (typed version kind) = 0
 rewrite_for_c room (described kind address stream) = put_for_c (put_answer room (packet_of kind address stream))
 
 -- what is left in the buffer l
 unfoldable pub buffer_after_rewrite : List ℕ → Reading → List ℕ
-buffer_after_rewrite l (refused n) = l
+buffer_after_rewrite l (refused e) = l
 buffer_after_rewrite l (typed version kind) = l
 buffer_after_rewrite l (described kind address stream) = put_leaves l (packet_of kind address stream)
 

@@ -9,7 +9,7 @@ ghost use Rattle.card_packet.specs.Private.{body_of};
 
 use ipbcp::{Body, Message, MessageType};
 use media::Stream;
-use octets::{Put, REFUSED};
+use octets::{REFUSED, Refusal};
 
 // The body of a message of this type.
 fn body_of(kind: MessageType, stream: Stream) -> Body
@@ -24,12 +24,12 @@ fn body_of(kind: MessageType, stream: Stream) -> Body
 }
 
 // A writer's answer as one number.
-fn code(r: Put) -> usize
+fn code(r: Result<usize, Refusal>) -> usize
     ensures { result ≡ put_for_c r }
 {
     match r {
-        Put::Octets(n) => n,
-        Put::Refused(n) => REFUSED + n as usize,
+        Ok(n) => n,
+        Err(e) => REFUSED + e.number() as usize,
     }
 }
 
@@ -39,21 +39,12 @@ fn code(r: Put) -> usize
 pub fn card_packet_rewrite(m: &[u8], out: &mut [u8]) -> usize
     ensures { Rewrites (read_message m.now) out.old result out.new }
 {
-    let x = ipbcp::read(m);
-    match x {
-        Message::Refused(n) => REFUSED + n as usize,
-        Message::Typed {
-            version: _,
-            kind: _,
-        } => 0,
-        Message::Described {
-            kind,
-            address,
-            stream,
-        } => {
-            let body = body_of(kind, stream);
-            let r = bctp::write_packet(body, address, m, out);
-            code(r)
+    match ipbcp::read(m) {
+        Err(e) => code(Err(e)),
+        Ok(Message::Typed { .. }) => 0,
+        Ok(Message::Described { kind, description }) => {
+            let body = body_of(kind, description.stream);
+            code(bctp::write_packet(body, description.address, m, out))
         }
     }
 }

@@ -4,8 +4,8 @@ use Rattle.card_packet.proofs.AgainLaws.{codes}
 use borrow.Author.Rules.{rules}
 use Rattle.card_packet.proofs.code.Goals as goal
 
-pub returns-in-Octets : goal.returns-in-Octets
-returns-in-Octets c = search (codes, rules)
+pub returns-in-Ok : goal.returns-in-Ok
+returns-in-Ok c = search (codes, rules)
 
-pub returns-in-Refused : goal.returns-in-Refused
-returns-in-Refused c = search (codes, rules)
+pub returns-in-Err : goal.returns-in-Err
+returns-in-Err c = search (codes, rules)
