@@ -6,6 +6,8 @@ use mathlib.Core.Path.{◌≡◌, refl}
 use mathlib.Core.List.{List, [], ◌∷◌, map}
 use mathlib.Core.Bool.{Bool, true, false}
 use mathlib.Core.Option.{Option, none, some, Option-elim}
+use Rattle.std.specs.Prelude as code
+use Rattle.octets.specs.declared.Refusal.TheVariants.{Unframed}
 use Rattle.octets.specs.Split.{on_first, split_on}
 use Rattle.octets.specs.Decimal.{is_digit, all_digits, value_from, shortest, number_from, read_number, on_number}
 use Rattle.codes.specs.Codes.{is_action}
@@ -13,9 +15,8 @@ use Rattle.bat.specs.Framing.{Length, sized, unsized, length_of, unmarked, heade
 use Rattle.bat.specs.Values.{Diagnostic, action, itu_codec, right_single, action_in, with_single, on_codecs, is_single, codec_then, codecs_in, codec_list_in, decoding}
 use Rattle.bat.specs.Judging.{index_by, second_choice, outcome_of, notice_of, judgement, Finding, known, unknown, finding_by, finding, JudgedData, refused_data, judged_elements, judged_by, judged_data}
 use Rattle.address.specs.declared.Address.TheVariants.{V4}
-use Rattle.address.specs.declared.Parsed.{Parsed}
-use Rattle.address.specs.declared.Parsed.TheVariants.{Unicast, Unreadable}
-use Rattle.address.specs.Kinds.{is_unicast, if_unicast4}
+use Rattle.address.specs.declared.Address.{Address}
+use Rattle.address.specs.Kinds.{is_unicast, if_unicast}
 use Rattle.address.specs.Parts.{all_parts, in_base}
 use Rattle.address.specs.Ipv4.{is_octet, octet_value, is_dotted, dotted_value, read_v4}
 use Rattle.bctp.specs.Packet.{right_first, right_second, has_error, version_of, protocol_of, version_indicator, protocol_indicator, Opened, tunnel_reply, opened_by, opened_packet}
@@ -32,7 +33,7 @@ diagnostics (known v ∷ vs) = diagnostics vs
 diagnostics (unknown j ∷ vs) = j.diagnostic ∷ diagnostics vs
 
 diagnosed : JudgedData → Option (List Diagnostic)
-diagnosed (refused_data n) = none
+diagnosed (refused_data e) = none
 diagnosed (judged_elements vs) = some (diagnostics vs)
 
 data Question : Type 0 where
@@ -55,7 +56,7 @@ data Reply : Type 0 where
   the_diagnostics : Option (List Diagnostic) → Reply
   an_outcome : ℕ → Bool → Reply
   a_packet : Opened → Reply
-  an_address : Parsed → Reply
+  an_address : code.Option Address → Reply
 
 given : Question → Reply
 unfolding length_number diagnosed
@@ -80,8 +81,8 @@ examples =
     }
     ∷ record { asked = asks_length (0x00 ∷ 0x81 ∷ []); right = a_length (some 128) }
     ∷ record { asked = asks_length (0x7F ∷ 0x8F ∷ []); right = a_length (some 2047) }
-    ∷ record { asked = answer_to (0x01 ∷ 0x80 ∷ []); right = an_answer (refused_data 2) }
-    ∷ record { asked = answer_to (0x01 ∷ 0x00 ∷ 0x01 ∷ []); right = an_answer (refused_data 2) }
+    ∷ record { asked = answer_to (0x01 ∷ 0x80 ∷ []); right = an_answer (refused_data Unframed) }
+    ∷ record { asked = answer_to (0x01 ∷ 0x00 ∷ 0x01 ∷ []); right = an_answer (refused_data Unframed) }
     ∷ record { asked = asked_by 0xB0; right = an_outcome 3 false }
     ∷ record { asked = asked_by 0xD0; right = an_outcome 1 true }
     ∷ record { asked = packet (0x20 ∷ 0x21 ∷ []); right = a_packet (tunnel_reply (0x20 ∷ 0x61 ∷ [])) }
@@ -89,11 +90,11 @@ examples =
     -- "223.255.255.255" and "224.0.0.1"
     ∷ record {
       asked = address (50 ∷ 50 ∷ 51 ∷ 46 ∷ 50 ∷ 53 ∷ 53 ∷ 46 ∷ 50 ∷ 53 ∷ 53 ∷ 46 ∷ 50 ∷ 53 ∷ 53 ∷ []);
-      right = an_address (Unicast (V4 0xDFFFFFFF));
+      right = an_address (code.Some (V4 0xDFFFFFFF));
     }
-    ∷ record { asked = address (50 ∷ 50 ∷ 52 ∷ 46 ∷ 48 ∷ 46 ∷ 48 ∷ 46 ∷ 49 ∷ []); right = an_address Unreadable }
+    ∷ record { asked = address (50 ∷ 50 ∷ 52 ∷ 46 ∷ 48 ∷ 46 ∷ 48 ∷ 46 ∷ 49 ∷ []); right = an_address code.None }
     ∷ []
 
 all_right : map (λ x. given x.asked) examples ≡ map (λ x. x.right) examples
-unfolding given examples length_number diagnostics diagnosed is_action length_of unmarked header whole counted_by element_by sized_by front on_front walk_from walk fold elements room_for cut itu_codec right_single action_in with_single on_codecs is_single codec_then codecs_in codec_list_in decoding index_by second_choice outcome_of notice_of judgement finding_by finding judged_by judged_data Option-elim on_first split_on is_digit all_digits value_from shortest number_from read_number on_number is_unicast if_unicast4 all_parts in_base is_octet octet_value is_dotted dotted_value read_v4 right_first right_second has_error version_of protocol_of version_indicator protocol_indicator opened_by opened_packet
+unfolding given examples length_number diagnostics diagnosed is_action length_of unmarked header whole counted_by element_by sized_by front on_front walk_from walk fold elements room_for cut itu_codec right_single action_in with_single on_codecs is_single codec_then codecs_in codec_list_in decoding index_by second_choice outcome_of notice_of judgement finding_by finding judged_by judged_data Option-elim on_first split_on is_digit all_digits value_from shortest number_from read_number on_number is_unicast if_unicast all_parts in_base is_octet octet_value is_dotted dotted_value read_v4 right_first right_second has_error version_of protocol_of version_indicator protocol_indicator opened_by opened_packet
 all_right = refl
