@@ -9,7 +9,7 @@ use address::Address;
 use configuration::MOST_NAME;
 use ipbcp::{Description, MOST_READ};
 use media::Stream;
-use octets::append::push;
+use octets::append::Cursor;
 
 // Room for "audio", "RTP/AVP" and an encoding name.
 pub const MOST_OFFERED: usize = 12 + MOST_NAME;
@@ -49,7 +49,7 @@ pub fn hold(description: Description, m: &[u8]) -> Bearer
     ensures { result ≡ bearer_as description m.now }
 {
     let mut text = [0u8; MOST_READ];
-    push(m, &mut text, 0);
+    Cursor::new(&mut text).push(m);
     Bearer {
         address: description.address,
         stream: description.stream,
