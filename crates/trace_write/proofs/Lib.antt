@@ -1,5 +1,3 @@
--- The laws of the definitions in `specs/`, a file for each subject.
+-- The laws of the definitions in `specs/`.
 -- Assumes nothing.
-pub mod WordLaws
-pub mod LineLaws
-pub mod DetailLaws
+pub mod PushLaws

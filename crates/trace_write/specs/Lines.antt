@@ -1,14 +1,14 @@
 -- Document 01, "Trace program": the lines that are printed, with one blank between their fields. The line of an event is defined
 -- without its LF, since a detailed trace has more fields before it.
-use Rattle.std.specs.Prelude.{ℕ, List, [], ◌∷◌, ◌++◌, Bool}
+use Rattle.std.specs.Prelude.{ℕ, List, [], ◌∷◌, ◌++◌, Result, Ok, Err}
 use Rattle.std.proofs.Math.Option.{Option, none, some}
+use Rattle.octets.specs.declared.Refusal.{Refusal}
+use Rattle.octets.specs.declared.Refusal.TheVariants.{BadConfiguration}
 use Rattle.octets.specs.Append.{number_text}
 use Rattle.octets.specs.Text.{ascii, blank, lf}
 use Rattle.notation.specs.Notation.{refused_shown}
 use Rattle.book.specs.declared.State.{State}
-use Rattle.book.specs.declared.Notice.{Notice}
-use Rattle.endpoint.specs.declared.Reply.{Reply}
-use Rattle.endpoint.specs.declared.Reply.TheVariants.{Refused, Done}
+use Rattle.endpoint.specs.declared.Done.{Done}
 use Rattle.endpoint.specs.Rule.{Event}
 use Rattle.trace_write.specs.Words.{kind_word, bad_word, state_word, notice_word, dropped_word}
 
@@ -18,7 +18,7 @@ header_line = ascii "n event state notice dropped written" ++ (lf ∷ [])
 
 -- what is printed for a configuration that is refused
 abbrev pub refused_line : List ℕ
-refused_line = refused_shown 12 ++ (lf ∷ [])
+refused_line = refused_shown BadConfiguration ++ (lf ∷ [])
 
 -- ---- the line of an event
 -- the kind of an event, or that the line is no event
@@ -31,16 +31,16 @@ unfoldable pub number_and_kind : ℕ → Option Event → List ℕ
 number_and_kind n e = number_text n ++ (blank ∷ kind_field e)
 
 -- the last three fields: `notice`, `dropped` and `written`
-abbrev pub refusal_text : ℕ → List ℕ
-refusal_text n = refused_shown n ++ ascii " no 0"
+abbrev pub refusal_text : Refusal → List ℕ
+refusal_text e = refused_shown e ++ ascii " no 0"
 
-abbrev pub done_text : Notice → Bool → ℕ → List ℕ
-done_text n d w = notice_word n ++ (blank ∷ (dropped_word d ++ (blank ∷ number_text w)))
+abbrev pub done_text : Done → List ℕ
+done_text d = notice_word d.notice ++ (blank ∷ (dropped_word d.dropped ++ (blank ∷ number_text d.written)))
 
 -- the state after the event, and those fields; a refusal leaves the state s
-unfoldable pub reply_text : State → Reply → List ℕ
-reply_text s (Refused n) = state_word s ++ (blank ∷ refusal_text n)
-reply_text s (Done t n w d) = state_word t ++ (blank ∷ done_text n d w)
+unfoldable pub reply_text : State → Result Done Refusal → List ℕ
+reply_text s (Ok d) = state_word d.state ++ (blank ∷ done_text d)
+reply_text s (Err e) = state_word s ++ (blank ∷ refusal_text e)
 
-unfoldable pub event_text : ℕ → Option Event → State → Reply → List ℕ
+unfoldable pub event_text : ℕ → Option Event → State → Result Done Refusal → List ℕ
 event_text n e s r = number_and_kind n e ++ (blank ∷ reply_text s r)

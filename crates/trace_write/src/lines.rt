@@ -1,124 +1,88 @@
 // The line of an event, without its LF, and what is printed for a configuration.
-ghost use Rattle.std.specs.Prelude.{[], ◌∷◌, ◌++◌};
+ghost use Rattle.std.specs.Prelude.{[], ◌∷◌, ◌++◌, Err};
 ghost use Rattle.std.proofs.Math.Option.{none, some};
 ghost use Rattle.octets.specs.Text.{blank};
-ghost use Rattle.octets.specs.Append.{Appends, number_text};
+ghost use Rattle.octets.specs.Append.{Pushes, number_text};
+ghost use Rattle.octets.specs.declared.Refusal.TheVariants.{BadLine};
 ghost use Rattle.endpoint.specs.Step.{event_by};
-ghost use Rattle.trace_write.specs.Words.{state_word, notice_word, dropped_word};
-ghost use Rattle.trace_write.specs.Lines.{header_line, refused_line, number_and_kind, refusal_text, done_text, reply_text, event_text};
+ghost use Rattle.trace_write.specs.Lines.{header_line, refused_line, refusal_text, done_text, reply_text, event_text};
 
-use crate::words::{push_dropped, push_kind, push_notice, push_state};
-use book::{Notice, State};
-use endpoint::{Event, Reply};
+use crate::words::{dropped_word, kind_word, notice_word, state_word};
+use book::State;
+use endpoint::{Done, Event};
 use notation::push_refused;
-use octets::append::{push, push_number, push_number_then, push_octet};
+use octets::Refusal;
+use octets::append::Cursor;
 
 // Appends the line of field names.
-pub fn push_header(out: &mut [u8], at: usize) -> usize
-    ensures { Appends out.old at header_line result out.new }
+pub fn push_header(out: &mut Cursor<'_>)
+    ensures { Pushes out.old out.new header_line }
 {
-    push(b"n event state notice dropped written\n", out, at)
+    out.push(b"n event state notice dropped written\n");
 }
 
 // Appends what is printed for a configuration that is refused.
-pub fn push_refused_line(out: &mut [u8], at: usize) -> usize
-    ensures { Appends out.old at refused_line result out.new }
+pub fn push_refused_line(out: &mut Cursor<'_>)
+    ensures { Pushes out.old out.new refused_line }
 {
-    let k = push_refused(12, out, at);
-    push_octet(b'\n', out, k)
+    push_refused(Refusal::BadConfiguration, out);
+    out.push_octet(b'\n');
 }
 
-// Appends a state and a blank.
-fn push_state_then(state: State, out: &mut [u8], at: usize) -> usize
-    ensures { Appends out.old at (state_word state ++ (blank ∷ [])) result out.new }
+// Appends a word and a blank.
+fn push_word(word: &[u8], out: &mut Cursor<'_>)
+    ensures { Pushes out.old out.new (word.now ++ (blank ∷ [])) }
 {
-    let k = push_state(state, out, at);
-    push_octet(b' ', out, k)
-}
-
-// Appends a notice and a blank.
-fn push_notice_then(notice: Notice, out: &mut [u8], at: usize) -> usize
-    ensures { Appends out.old at (notice_word notice ++ (blank ∷ [])) result out.new }
-{
-    let k = push_notice(notice, out, at);
-    push_octet(b' ', out, k)
-}
-
-// Appends whether the peer's Request cancelled our change, and a blank.
-fn push_dropped_then(dropped: bool, out: &mut [u8], at: usize) -> usize
-    ensures { Appends out.old at (dropped_word dropped ++ (blank ∷ [])) result out.new }
-{
-    let k = push_dropped(dropped, out, at);
-    push_octet(b' ', out, k)
+    out.push(word);
+    out.push_octet(b' ');
 }
 
 // Appends what a refusal has after the state.
-fn push_refusal(n: u8, out: &mut [u8], at: usize) -> usize
-    ensures { Appends out.old at (refusal_text n) result out.new }
+fn push_refusal(e: Refusal, out: &mut Cursor<'_>)
+    ensures { Pushes out.old out.new (refusal_text e) }
 {
-    let k = push_refused(n, out, at);
-    push(b" no 0", out, k)
-}
-
-// Appends whether the peer's Request cancelled our change, and how many octets were written.
-fn push_written(dropped: bool, written: usize, out: &mut [u8], at: usize) -> usize
-    ensures { Appends out.old at (dropped_word dropped ++ (blank ∷ number_text written)) result out.new }
-{
-    let k = push_dropped_then(dropped, out, at);
-    push_number(written as u64, out, k)
+    push_refused(e, out);
+    out.push(b" no 0");
 }
 
 // Appends what an event that is not refused has after the state.
-fn push_done(notice: Notice, dropped: bool, written: usize, out: &mut [u8], at: usize) -> usize
-    ensures { Appends out.old at (done_text notice dropped written) result out.new }
+fn push_done(done: Done, out: &mut Cursor<'_>)
+    ensures { Pushes out.old out.new (done_text done) }
 {
-    let k = push_notice_then(notice, out, at);
-    push_written(dropped, written, out, k)
+    push_word(notice_word(done.notice), out);
+    push_word(dropped_word(done.dropped), out);
+    out.push_number(done.written as u64);
 }
 
 // Appends a reply; `state` is the state that a refusal leaves.
-fn push_reply(state: State, reply: Reply, out: &mut [u8], at: usize) -> usize
-    ensures { Appends out.old at (reply_text state reply) result out.new }
+fn push_reply(state: State, reply: Result<Done, Refusal>, out: &mut Cursor<'_>)
+    ensures { Pushes out.old out.new (reply_text state reply) }
 {
     match reply {
-        Reply::Refused(n) => {
-            let k = push_state_then(state, out, at);
-            push_refusal(n, out, k)
+        Ok(done) => {
+            push_word(state_word(done.state), out);
+            push_done(done, out);
         }
-        Reply::Done {
-            state: after,
-            notice,
-            written,
-            dropped,
-        } => {
-            let k = push_state_then(after, out, at);
-            push_done(notice, dropped, written, out, k)
+        Err(e) => {
+            push_word(state_word(state), out);
+            push_refusal(e, out);
         }
     }
 }
 
-// Appends the number and the kind of an event.
-fn push_head(number: u64, event: Event, out: &mut [u8], at: usize) -> usize
-    ensures { Appends out.old at (number_and_kind number (some (event_by event []))) result out.new }
+// Appends a number, the word for its kind, and a reply.
+fn push_line(
+    number: u64,
+    kind: &[u8],
+    state: State,
+    reply: Result<Done, Refusal>,
+    out: &mut Cursor<'_>,
+)
+    ensures { Pushes out.old out.new (number_text number ++ (blank ∷ (kind.now ++ (blank ∷ reply_text state reply)))) }
 {
-    let k = push_number_then(number, b' ', out, at);
-    push_kind(event, out, k)
-}
-
-// Appends the number of a line that is no event, and that it is bad.
-fn push_bad_head(number: u64, out: &mut [u8], at: usize) -> usize
-    ensures { Appends out.old at (number_and_kind number none) result out.new }
-{
-    let k = push_number_then(number, b' ', out, at);
-    push(b"bad", out, k)
-}
-
-// Appends a blank and a reply.
-fn push_after(state: State, reply: Reply, out: &mut [u8], at: usize) -> usize
-    ensures { Appends out.old at (blank ∷ reply_text state reply) result out.new }
-{
-    let k = push_octet(b' ', out, at);
-    push_reply(state, reply, out, k)
+    out.push_number_then(number, b' ');
+    push_word(kind, out);
+    push_reply(state, reply, out);
 }
 
 // Appends the line of an event; `state` is the endpoint's state before it.
@@ -126,20 +90,17 @@ pub fn push_event(
     number: u64,
     event: Event,
     state: State,
-    reply: Reply,
-    out: &mut [u8],
-    at: usize,
-) -> usize
-    ensures { Appends out.old at (event_text number (some (event_by event [])) state reply) result out.new }
+    reply: Result<Done, Refusal>,
+    out: &mut Cursor<'_>,
+)
+    ensures { Pushes out.old out.new (event_text number (some (event_by event [])) state reply) }
 {
-    let k = push_head(number, event, out, at);
-    push_after(state, reply, out, k)
+    push_line(number, kind_word(event), state, reply, out);
 }
 
 // Appends what is printed for a line that is no event.
-pub fn push_bad(number: u64, state: State, out: &mut [u8], at: usize) -> usize
-    ensures { Appends out.old at (event_text number none state (Reply.Refused 13)) result out.new }
+pub fn push_bad(number: u64, state: State, out: &mut Cursor<'_>)
+    ensures { Pushes out.old out.new (event_text number none state (Err BadLine)) }
 {
-    let k = push_bad_head(number, out, at);
-    push_after(state, Reply::Refused(13), out, k)
+    push_line(number, b"bad", state, Err(Refusal::BadLine), out);
 }

@@ -1,8 +1,9 @@
--- `detail::push_detail` meets its contract. The bearer in force is appended after the octets.
+-- `detail::push_detail` meets its contract. The bearer is pushed after the octets.
 -- Assumes nothing.
-use borrow.Author.Rules.{rules}
-use Rattle.trace_write.proofs.DetailLaws.{detail_text_lem}
+use Rattle.trace_write.specs.Detail.{detail_text}
+use Rattle.trace_write.proofs.PushLaws.{pushes_then}
 use Rattle.trace_write.proofs.detail.push_detail.Goals as goal
 
 pub returns : goal.returns
-returns c = search (detail_text_lem, rules)
+unfolding detail_text
+returns c = pushes_then c.push_octet.ensures (pushes_then c.push_octets.ensures (pushes_then c.push_octet-2.ensures c.push_force.ensures))

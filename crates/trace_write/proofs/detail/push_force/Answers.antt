@@ -1,11 +1,12 @@
--- `detail::push_force` meets its contract. The bearer is appended if one is in force, otherwise the hyphen.
+-- `detail::push_force` meets its contract. The bearer is pushed if there is one.
 -- Assumes nothing.
-use borrow.Author.Rules.{rules}
-use Rattle.trace_write.proofs.DetailLaws.{forces}
+use Rattle.trace_write.specs.Detail.{force_shown}
 use Rattle.trace_write.proofs.detail.push_force.Goals as goal
 
-pub returns-then-held : goal.returns-then-held
-returns-then-held c = search (forces, rules)
+pub returns-in-Some : goal.returns-in-Some
+unfolding force_shown
+returns-in-Some c = rw c.in-Some.is c.push_bearer.ensures
 
-pub returns : goal.returns
-returns c = search (forces, rules)
+pub returns-in-None : goal.returns-in-None
+unfolding force_shown
+returns-in-None c = rw c.in-None.is c.push_octet.ensures

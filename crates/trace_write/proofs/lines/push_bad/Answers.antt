@@ -1,8 +1,9 @@
--- `lines::push_bad` meets its contract. The refusal with number 13 is appended after the number and the word.
+-- `lines::push_bad` meets its contract. It is the line of no kind.
 -- Assumes nothing.
-use borrow.Author.Rules.{rules}
-use Rattle.trace_write.proofs.LineLaws.{event_text_lem}
+use mathlib.Core.List.{append_assoc}
+use Rattle.trace_write.specs.Lines.{kind_field, number_and_kind, event_text}
 use Rattle.trace_write.proofs.lines.push_bad.Goals as goal
 
 pub returns : goal.returns
-returns c = search (event_text_lem, rules)
+unfolding kind_field number_and_kind event_text
+returns c = rw append_assoc c.push_line.ensures

@@ -1,8 +1,7 @@
--- `lines::push_done` meets its contract. The rest is appended after the notice and its blank.
+-- `lines::push_done` meets its contract. The fields are pushed one after the other.
 -- Assumes nothing.
-use borrow.Author.Rules.{rules}
-use Rattle.trace_write.proofs.LineLaws.{blank_then}
+use Rattle.trace_write.proofs.PushLaws.{word_then}
 use Rattle.trace_write.proofs.lines.push_done.Goals as goal
 
 pub returns : goal.returns
-returns c = search (blank_then, rules)
+returns c = rw (← c.notice_word.ensures, ← c.dropped_word.ensures) (word_then _ c.push_word.ensures (word_then _ c.push_word-2.ensures c.push_number.ensures))

@@ -1,8 +1,9 @@
--- `lines::push_event` meets its contract. The reply is appended after the number and the kind.
+-- `lines::push_event` meets its contract. It is the line of the event's kind.
 -- Assumes nothing.
-use borrow.Author.Rules.{rules}
-use Rattle.trace_write.proofs.LineLaws.{event_text_lem}
+use mathlib.Core.List.{append_assoc}
+use Rattle.trace_write.specs.Lines.{kind_field, number_and_kind, event_text}
 use Rattle.trace_write.proofs.lines.push_event.Goals as goal
 
 pub returns : goal.returns
-returns c = search (event_text_lem, rules)
+unfolding kind_field number_and_kind event_text
+returns c = rw (append_assoc, ← c.kind_word.ensures) c.push_line.ensures

@@ -1,8 +1,7 @@
--- `lines::push_refused_line` meets its contract. The refusal and the LF are appended one after the other.
+-- `lines::push_refused_line` meets its contract. The LF is pushed after the refusal.
 -- Assumes nothing.
-use borrow.Author.Rules.{rules}
-use Rattle.octets.proofs.AppendLaws.{append_then}
+use Rattle.trace_write.proofs.PushLaws.{pushes_then}
 use Rattle.trace_write.proofs.lines.push_refused_line.Goals as goal
 
 pub returns : goal.returns
-returns c = search (append_then, rules)
+returns c = pushes_then c.push_refused.ensures c.push_octet.ensures

@@ -1,11 +1,13 @@
--- `lines::push_reply` meets its contract. A refusal leaves the state; otherwise the reply has the state after the event.
+-- `lines::push_reply` meets its contract. The last fields are pushed after the state.
 -- Assumes nothing.
-use borrow.Author.Rules.{rules}
-use Rattle.trace_write.proofs.LineLaws.{replies}
+use Rattle.trace_write.specs.Lines.{reply_text}
+use Rattle.trace_write.proofs.PushLaws.{word_then}
 use Rattle.trace_write.proofs.lines.push_reply.Goals as goal
 
-pub returns-in-Refused : goal.returns-in-Refused
-returns-in-Refused c = search (replies, rules)
+pub returns-in-Ok : goal.returns-in-Ok
+unfolding reply_text
+returns-in-Ok c = rw (c.in-Ok.is, ← c.state_word.ensures) (word_then _ c.push_word.ensures c.push_done.ensures)
 
-pub returns-in-Done : goal.returns-in-Done
-returns-in-Done c = search (replies, rules)
+pub returns-in-Err : goal.returns-in-Err
+unfolding reply_text
+returns-in-Err c = rw (c.in-Err.is, ← c.state_word-in-Err.ensures) (word_then _ c.push_word-in-Err.ensures c.push_refusal.ensures)

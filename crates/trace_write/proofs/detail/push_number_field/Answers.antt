@@ -1,8 +1,0 @@
--- `detail::push_number_field` meets its contract. The number is appended after the semicolon.
--- Assumes nothing.
-use borrow.Author.Rules.{rules}
-use Rattle.octets.proofs.AppendLaws.{octet_then}
-use Rattle.trace_write.proofs.detail.push_number_field.Goals as goal
-
-pub returns : goal.returns
-returns c = search (octet_then, rules)

@@ -1,8 +1,0 @@
--- `lines::push_after` meets its contract. The reply is appended after the blank.
--- Assumes nothing.
-use borrow.Author.Rules.{rules}
-use Rattle.octets.proofs.AppendLaws.{octet_then}
-use Rattle.trace_write.proofs.lines.push_after.Goals as goal
-
-pub returns : goal.returns
-returns c = search (octet_then, rules)
