@@ -1,28 +1,27 @@
--- Laws of `find_end` and `next_line`: what comes before the first octet that is not plain is `plain_part`,
+-- Laws of `pass_fours`, `find_end` and `next_line`: what comes before the first octet that is not plain is `plain_part`,
 -- and the octets after it say whether a line ends there.
 -- Assumes nothing.
-use Prim.Native.Nat.{ℕ, zero, suc, ◌+◌, ◌-◌, ◌≤◌, ◌<◌}
+use Prim.Native.Nat.{ℕ, suc, ◌+◌, ◌-◌, ◌≤◌, ◌<◌}
 use mathlib.Core.Path.{◌≡◌, refl, sym, ap, ◌∙◌}
 use mathlib.Core.List.{List, [], ◌∷◌, ◌++◌, append-nil}
-use mathlib.Core.Bool.{Bool, true, false, not}
+use mathlib.Core.Bool.{Bool, true, false}
 use mathlib.Core.Option.{some}
 use lib.ListN.{length, get_or, take, drop, length-drop, drop_of_length-le, take-append-drop}
 use lib.Seq.{drop-drop, get_or-take, get_or-drop}
 use native.Mathlib.Nat.{add-zero}
 use native.Mathlib.Omega.{arith}
-use lib.Dec.{leb, eqb, leb-suc-suc}
+use lib.Dec.{leb, leb-suc-suc}
 use borrow.Author.Tests.{le-leb, lt-leb}
 use Rattle.octets.specs.Split.{before}
 use Rattle.octets.specs.Spans.{text_of}
 use Rattle.octets.proofs.Laws.{next, drop_take}
 use Rattle.octets.proofs.SplitLaws.{before_more}
 use Rattle.octets.proofs.CaseLaws.{by_bool}
-use Rattle.memchr.specs.Find.{is_byte3, Nowhere, Passes}
 use Rattle.sdp.specs.Lines.{is_plain, all_plain, is_line}
 use Rattle.sdp.specs.Meaning.{line, no_line, first_line, line_in}
-use Rattle.sdp.specs.Private.{plain_part, Ends, is_start}
+use Rattle.sdp.specs.Private.{plain_part, PlainTo, Ends, is_start}
 use Rattle.std.specs.Prelude.{Some, None}
-use Rattle.sdp.proofs.PlainLaws.{line_start, start_front, first_lf, first_crlf, first_open, first_last, first_short, first_start, first_wrong}
+use Rattle.sdp.proofs.PlainLaws.{is_plain_lem, line_start, start_front, first_lf, first_crlf, first_open, first_last, first_short, first_start, first_wrong}
 
 -- ---- `plain_part`
 part_more : (b : ℕ) (bs : List ℕ) → is_plain b ≡ true → plain_part (b ∷ bs) ≡ b ∷ plain_part bs
@@ -72,34 +71,54 @@ plain_all s n f t p =
     let k : n ≡ length (plain_part s) = omega arith in
     p ∙ rw k (part_all s)
 
--- ---- the first 0, CR or LF of a text, as the kit's search finds it
-plain_not : (b : ℕ) → is_plain b ≡ not (is_byte3 0 13 10 b)
-unfolding is_plain
-plain_not b =
-    by_bool (eqb b 0) _ (λ p. rw p) λ p.
-    by_bool (eqb b 13) _ (λ q. rw (p, q)) λ q.
-    by_bool (eqb b 10) _ (λ r. rw (p, q, r)) (λ r. rw (p, q, r))
+-- ---- plain octets are passed, from i on
+module _ (m : List ℕ) (i : ℕ) where
+  pub to_start : PlainTo m i i
+  to_start = record { count = refl; low = omega arith }
 
-pass_first : (b : ℕ) (bs : List ℕ) (n : ℕ) → 0 < n → Nowhere (Passes (is_byte3 0 13 10) (b ∷ bs)) 0 n → is_plain b ≡ true
-pass_first b bs n h f =
-    by_bool (is_byte3 0 13 10 b) _
-    (λ p. absurd (f 0 (omega arith) h p))
-    (λ p. plain_not b ∙ ap not p)
+  to_next : (n : ℕ) → PlainTo m i n → n < length m → is_plain (get_or m n 0) ≡ true → PlainTo m i (n + 1)
+  to_next n f h e =
+      let k : n + suc (length (plain_part (drop (n + 1) m))) ≡ i + length (plain_part (drop i m)) =
+      rw (next m n h, part_more (get_or m n 0) (drop (n + 1) m) e) at f.count in
+      record { count = omega arith; low = omega (arith, f.low) }
 
-pub part_none : (s : List ℕ) → Nowhere (Passes (is_byte3 0 13 10) s) 0 (length s) → length (plain_part s) ≡ length s
-unfolding plain_part
-part_none [] f = refl
-part_none (b ∷ bs) f =
-    rw (pass_first b bs (length (b ∷ bs)) (omega arith) f)
-    (ap suc (part_none bs (λ k l h q. f (suc k) (omega arith) (omega arith) q)))
+  -- `find_end`, at n
+  module _ (n : ℕ) (f : PlainTo m i n) where
+    module _ (h : n < length m) (t : Bool) (p : t ≡ is_plain (get_or m n 0)) where
+      pub plain_more : t ≡ true → PlainTo m i (n + 1)
+      plain_more q = to_next n f h (sym p ∙ q)
 
-pub part_some : (s : List ℕ) (k : ℕ) → k < length s → Nowhere (Passes (is_byte3 0 13 10) s) 0 k → Passes (is_byte3 0 13 10) s k → length (plain_part s) ≡ k
-unfolding plain_part
-part_some [] k h f p = absurd (omega arith)
-part_some (b ∷ bs) zero h f p = rw (plain_not b, ap not p)
-part_some (b ∷ bs) (suc k) h f p =
-    rw (pass_first b bs (suc k) (omega arith) f)
-    (ap suc (part_some bs k (omega arith) (λ j l g q. f (suc j) (omega arith) (omega arith) q) p))
+      pub plain_found : t ≡ false → Ends m i n
+      plain_found q =
+          let k : plain_part (drop n m) ≡ [] = rw (next m n h) (part_here (get_or m n 0) (drop (n + 1) m) (sym p ∙ q)) in
+          record { is = omega (arith, f.count, ap length k); low = f.low }
+
+    pub plain_past : length m ≤ n → Ends m i n
+    unfolding plain_part
+    plain_past h =
+        let k : plain_part (drop n m) ≡ [] = rw (drop_of_length-le m h) in
+        record { is = omega (arith, f.count, ap length k); low = f.low }
+
+    -- `pass_fours`, at n
+    module _ (stop : ℕ) (s : stop ≡ length m - 3) (l : n < stop) where
+      module _ (a : 13 < get_or m n 0) where
+        pub to_1 : PlainTo m i (n + 1)
+        to_1 = to_next n f (omega arith) (is_plain_lem (get_or m n 0) a)
+
+        module _ (b : 13 < get_or m (n + 1) 0) where
+          pub to_2 : PlainTo m i (n + 2)
+          to_2 = let z : n + 1 + 1 ≡ n + 2 = omega arith in rw z at (to_next (n + 1) to_1 (omega arith) (is_plain_lem (get_or m (n + 1) 0) b))
+
+          module _ (c : 13 < get_or m (n + 2) 0) where
+            pub to_3 : PlainTo m i (n + 3)
+            to_3 = let z : n + 2 + 1 ≡ n + 3 = omega arith in rw z at (to_next (n + 2) to_2 (omega arith) (is_plain_lem (get_or m (n + 2) 0) c))
+
+            pub to_4 : 13 < get_or m (n + 3) 0 → PlainTo m i (n + 4)
+            to_4 d = let z : n + 3 + 1 ≡ n + 4 = omega arith in rw z at (to_next (n + 3) to_3 (omega arith) (is_plain_lem (get_or m (n + 3) 0) d))
+
+pub ruleset fours = (to_start, to_1, to_2, to_3, to_4)
+
+pub ruleset ending = (plain_more, plain_found, plain_past)
 
 -- ---- `next_line` at i: e is where the plain part ends
 module _ (m : List ℕ) (i e : ℕ) (f : Ends m i e) where

@@ -9,6 +9,11 @@ unfoldable pub plain_part : List ℕ → List ℕ
 plain_part [] = []
 plain_part (b ∷ bs) = cond (is_plain b) (b ∷ plain_part bs) []
 
+-- n is i or later, and the octets between are plain
+pub record PlainTo (m : List ℕ) (i n : ℕ) : Type 0 where
+  pub count : n + length (plain_part (drop n m)) ≡ i + length (plain_part (drop i m))
+  pub low : i ≤ n
+
 -- r is where the plain part from i on ends; the bound follows, and is here for callers
 pub record Ends (m : List ℕ) (i r : ℕ) : Type 0 where
   pub is : r ≡ i + length (plain_part (drop i m))

@@ -3,13 +3,11 @@
 
 ghost use Rattle.std.specs.Prelude.{◌≡◌, drop};
 ghost use Rattle.std.proofs.Math.Option.{some};
-ghost use Rattle.sdp.specs.Lines.{all_plain, in_lines};
+ghost use Rattle.sdp.specs.Lines.{is_plain, all_plain, in_lines};
 ghost use Rattle.sdp.specs.Meaning.{first_line, line_in};
-ghost use Rattle.sdp.specs.Private.{Ends, is_start};
+ghost use Rattle.sdp.specs.Private.{PlainTo, Ends, is_start};
 
-use memchr::memchr3;
 use octets::Span;
-use octets::spans::after;
 
 // A line: its letter, its value (what comes after the `=`), and where the next line starts.
 #[derive(Clone, Copy)]
@@ -19,14 +17,50 @@ pub struct Line {
     pub next: usize,
 }
 
+// b may be part of a line: it is not 0, CR or LF.
+#[tactic(auto, unfolding(crate::specs::Lines::is_plain))]
+fn is_plain(b: u8) -> bool
+    ensures { result ≡ is_plain b }
+{
+    b != 0 && b != b'\r' && b != b'\n'
+}
+
+// A place at or after i with only plain octets between. Octets above CR are plain; they are passed four at a time: most lines are short,
+// and with the kit's `memchr3` a message of 171 octets takes 17 % more instructions.
+fn pass_fours(m: &[u8], i: usize) -> usize
+    ensures { PlainTo m.now i result }
+{
+    let stop = m.len().saturating_sub(3);
+    let mut n = i;
+    while n < stop {
+        if m[n] <= b'\r' {
+            return n;
+        }
+        if m[n + 1] <= b'\r' {
+            return n + 1;
+        }
+        if m[n + 2] <= b'\r' {
+            return n + 2;
+        }
+        if m[n + 3] <= b'\r' {
+            return n + 3;
+        }
+        n += 4;
+    }
+    n
+}
+
 // The place of the first 0, CR or LF of m at or after i, or the end.
 fn find_end(m: &[u8], i: usize) -> usize
     ensures { Ends m.now i result }
 {
-    match memchr3(0, b'\r', b'\n', after(m, i)) {
-        Some(k) => i + k,
-        None => i.max(m.len()),
+    let start = pass_fours(m, i);
+    for n in start..m.len() {
+        if !is_plain(m[n]) {
+            return n;
+        }
     }
+    start.max(m.len())
 }
 
 // s has only octets that may be part of a line.
@@ -40,13 +74,7 @@ pub fn all_plain(s: &[u8]) -> bool
 fn is_start(a: u8, e: u8) -> bool
     ensures { result ≡ is_start a e }
 {
-    if a < b'a' {
-        return false;
-    }
-    if b'z' < a {
-        return false;
-    }
-    e == b'='
+    matches!(a, b'a'..=b'z') && e == b'='
 }
 
 // The line that starts at i, or none if no line does.
