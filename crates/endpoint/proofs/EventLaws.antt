@@ -33,13 +33,13 @@ use Rattle.configuration.specs.Meaning.{configuration_by}
 use Rattle.bearer.specs.declared.Request.{Request}
 use Rattle.bearer.specs.Bearer.{Bearer}
 use Rattle.bearer.specs.Judging.{commanded}
-use Rattle.bearer.specs.Meaning.{request_by, bearer_by, request_inside}
+use Rattle.bearer.specs.Meaning.{request_by, bearer_by}
 use Rattle.judge.specs.Commands.{command_by, Commands}
 use Rattle.endpoint.specs.declared.Endpoint.{Endpoint}
 use Rattle.endpoint.specs.declared.Answer.{Answer}
 use Rattle.endpoint.specs.Rule.{Verdict, Event, if_writable, command_verdict, event_verdict, rule, least_room}
 use Rattle.endpoint.specs.Step.{book_by, book_of, Gave, Did}
-use Rattle.endpoint.specs.Private.{Offerable, in_state, InRoom, Silent, Says}
+use Rattle.endpoint.specs.Private.{in_state, InRoom, Silent, Says}
 
 -- a Request whose texts lie inside its array is what is written
 pub offered_content : (q : Request) → stream_inside q.text q.stream ≡ true → content_in q.text (asked_for.Request q.stream) ≡ some (request_content (request_by q))
@@ -84,10 +84,10 @@ module _ (c : Configuration) where
 module _ (self : Endpoint) where
   -- ---- a verdict that a test picks
   module _ (t : Bool) (v w : Verdict) (xs ys : List ℕ) (r : Answer) where
-    pub gave_true : t ≡ true → Gave self v xs ys r → Gave self (cond t v w) xs ys r
+    gave_true : t ≡ true → Gave self v xs ys r → Gave self (cond t v w) xs ys r
     gave_true p g = rw p g
 
-    pub gave_false : t ≡ false → Gave self w xs ys r → Gave self (cond t v w) xs ys r
+    gave_false : t ≡ false → Gave self w xs ys r → Gave self (cond t v w) xs ys r
     gave_false p g = rw p g
 
   module _ (t : Bool) (v w : Verdict) (r : Answer) where
@@ -164,13 +164,13 @@ module _ (self : Endpoint) where
 
   -- ---- a message that a writer was asked for
   -- it writes octets, or refuses by number 5
-  pub wrote : (o : Option (List ℕ)) (v : List ℕ → Verdict) (xs ys : List ℕ) (n : ℕ) (r : Answer) → Puts o xs (Ok n) ys → Says self v n r → Gave self (if_writable o v) xs ys r
+  wrote : (o : Option (List ℕ)) (v : List ℕ → Verdict) (xs ys : List ℕ) (n : ℕ) (r : Answer) → Puts o xs (Ok n) ys → Says self v n r → Gave self (if_writable o v) xs ys r
   wrote none v xs ys n r p g = absurd (puts_no xs n ys p)
   wrote (some t) v xs ys n r p g =
       let (count, leaves) = puts_some t xs n ys p in
       subst (λ (zs : List ℕ). Gave self (v t) xs zs r) (sym leaves) (g t xs (sym count))
 
-  pub unwritten : (o : Option (List ℕ)) (v : List ℕ → Verdict) (xs ys : List ℕ) (e : Refusal) (r : Answer) → ((t : List ℕ) → o ≡ some t → length t ≤ length xs)
+  unwritten : (o : Option (List ℕ)) (v : List ℕ → Verdict) (xs ys : List ℕ) (e : Refusal) (r : Answer) → ((t : List ℕ) → o ≡ some t → length t ≤ length xs)
       → Puts o xs (Err e) ys → Silent self (refused e) r → Gave self (if_writable o v) xs ys r
   unfolding put_answer put_leaves
   unwritten none v xs ys e r short p g =
@@ -197,15 +197,6 @@ module _ (self : Endpoint) where
         (subst (λ (x : Result ℕ Refusal). Puts (message_octets own c) xs x ys) q asked) g
 
   -- ---- commands
-  module _ (entry payload ptime : ℕ) (o : code.Option Request) (h : Commands (configuration_by self.config) entry payload ptime o) (xs ys : List ℕ) (r : Answer) where
-    pub command_right : (q : Request) → o ≡ Some q → Gave self (command_verdict (configuration_by self.config) (some (request_by q))) xs ys r
-        → Gave self (command_verdict (configuration_by self.config) (commanded (configuration_by self.config) entry payload ptime)) xs ys r
-    command_right q p g = subst (λ (x : Option Stream). Gave self (command_verdict (configuration_by self.config) x) xs ys r) (sym (ap command_by p) ∙ h.is) g
-
   pub command_wrong : (entry payload ptime : ℕ) (o : code.Option Request) (xs : List ℕ) (r : Answer) → Commands (configuration_by self.config) entry payload ptime o → o ≡ None
       → Silent self (refused OutOfRange) r → Gave self (command_verdict (configuration_by self.config) (commanded (configuration_by self.config) entry payload ptime)) xs xs r
   command_wrong entry payload ptime o xs r h p g = subst (λ (x : Option Stream). Gave self (command_verdict (configuration_by self.config) x) xs xs r) (sym (ap command_by p) ∙ h.is) (g xs)
-
-  pub command_offerable : (entry payload ptime : ℕ) (o : code.Option Request) (q : Request) (xs : List ℕ) → Commands (configuration_by self.config) entry payload ptime o → o ≡ Some q
-      → least_room ≤ length xs → Offerable q xs
-  command_offerable entry payload ptime o q xs h p room = record { room = room; inside = subst (λ x. IfSome x (λ y. request_inside y ≡ true)) p h.inside }

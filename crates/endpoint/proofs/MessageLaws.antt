@@ -32,12 +32,12 @@ use Rattle.bearer.specs.declared.Heard.TheVariants as is
 use Rattle.bearer.specs.Bearer.{Bearer}
 use Rattle.bearer.specs.Hearing as hears
 use Rattle.bearer.specs.Hearing.{Heard, heard}
-use Rattle.bearer.specs.Judging.{right_request, nearest, restated, granted, accepted_for, right_accepted}
+use Rattle.bearer.specs.Judging.{nearest, restated, granted, accepted_for, right_accepted}
 use Rattle.bearer.specs.Meaning.{request_by, bearer_by, bearer_inside, named_by, named_if, heard_in, bearer_as, places_as}
 use Rattle.bearer.proofs.HeldLaws.{stream_in_by, restated_by, held_names, held_inside, heard_short, accepted_short}
 use Rattle.endpoint.specs.declared.Endpoint.{Endpoint}
 use Rattle.endpoint.specs.declared.Answer.{Answer}
-use Rattle.endpoint.specs.Rule.{Verdict, Event, answer_rejected, answer_accepted, request_verdict, accepted_verdict, if_awaited, message_verdict, least_room}
+use Rattle.endpoint.specs.Rule.{Verdict, Event, answer_accepted, accepted_verdict, if_awaited, message_verdict, least_room}
 use Rattle.endpoint.specs.Step.{book_by, book_of, Gave, Did}
 use Rattle.endpoint.specs.Private.{Silent, Says, Readable, Answerable}
 use Rattle.endpoint.proofs.VerdictLaws.{ignores_by}
@@ -77,9 +77,6 @@ module _ (self : Endpoint) where
     pub heard_ignored : (xs : List ℕ) (r : Answer) → t ≡ true → Silent self discarded r → Gave self (cond (ignores (book_of self)) discarded v) xs xs r
     heard_ignored xs r q g = subst (λ (b : Bool). Gave self (cond b discarded v) xs xs r) (sym q ∙ ignored) (g xs)
 
-    pub heard_judged : (xs ys : List ℕ) (r : Answer) → t ≡ false → Gave self v xs ys r → Gave self (cond (ignores (book_of self)) discarded v) xs ys r
-    heard_judged xs ys r q g = subst (λ (b : Bool). Gave self (cond b discarded v) xs ys r) (sym q ∙ ignored) g
-
   -- ---- an answer to our Request: discarded, or given the verdict v
   module _ (t : Bool) (p : t ≡ awaits_at self.state) (v : Stream → Verdict) where
     pub heard_unawaited : (r : Answer) → t ≡ false → Silent self discarded r → Silent self (if_awaited (awaited (book_of self)) v) r
@@ -92,23 +89,9 @@ module _ (self : Endpoint) where
         subst (λ (o : Option Stream). Gave self (if_awaited o v) xs xs r)
         (sym (awaited_yes self.state self.side (request_by self.request) (bearer_by self.bearer) (sym p ∙ q))) (g xs)
 
-  -- ---- a Request that says o, judged by the bearer f that is in force
+  -- ---- an Accepted that says o, judged by the bearer f that is in force
   module _ (m : List ℕ) (o : code.Option Description) where
-    pub judged_none : (xs ys : List ℕ) (r : Answer) → o ≡ code.None → Gave self (answer_rejected (configuration_by self.config)) xs ys r
-        → Gave self (request_verdict (configuration_by self.config) (settled (book_of self)) (named_if m o)) xs ys r
-    judged_none xs ys r p g = rw p g
-
     module _ (d : Description) (p : o ≡ code.Some d) (f : Option Bearer) (h : f ≡ settled (book_of self)) (t : Bool) where
-      module _ (e : t ≡ right_request (configuration_by self.config) f (named_by m d)) (xs ys : List ℕ) (r : Answer) where
-        pub judged_right : t ≡ true → Gave self (answer_accepted (configuration_by self.config) (named_by m d)) xs ys r
-            → Gave self (request_verdict (configuration_by self.config) (settled (book_of self)) (named_if m o)) xs ys r
-        judged_right q g = rw (p, ← h, ← e, q) g
-
-        pub judged_wrong : t ≡ false → Gave self (answer_rejected (configuration_by self.config)) xs ys r
-            → Gave self (request_verdict (configuration_by self.config) (settled (book_of self)) (named_if m o)) xs ys r
-        judged_wrong q g = rw (p, ← h, ← e, q) g
-
-      -- ---- an Accepted that says o
       module _ (e : t ≡ right_accepted (configuration_by self.config) f (request_by self.request) (named_by m d)) (r : Answer) where
         taken_right : t ≡ true → Silent self (agreed (named_by m d)) r
             → Silent self (accepted_verdict (configuration_by self.config) (settled (book_of self)) (request_by self.request) (named_if m o)) r

@@ -1,7 +1,7 @@
 -- `Endpoint::command` meets its contract.
 -- Assumes nothing.
 use borrow.Author.Rules.{rules}
-use Rattle.endpoint.proofs.EventLaws.{in_room_short, suited, unsuited, command_offerable, command_right, command_wrong}
+use Rattle.endpoint.proofs.EventLaws.{in_room_short, suited, unsuited, command_wrong}
 use Rattle.endpoint.proofs.Endpoint.command.Goals as goal
 
 pub returns-then-out-lt-LEAST_ROOM : goal.returns-then-out-lt-LEAST_ROOM
@@ -9,12 +9,6 @@ returns-then-out-lt-LEAST_ROOM c = search (in_room_short, rules)
 
 pub returns-then-ne : goal.returns-then-ne
 returns-then-ne c = search (unsuited, rules)
-
-pub offer-requires : goal.offer-requires
-offer-requires c = search (command_offerable, rules)
-
-pub returns-in-Some : goal.returns-in-Some
-returns-in-Some c = search (suited, command_right, rules)
 
 pub returns-in-None : goal.returns-in-None
 returns-in-None c = search (suited, command_wrong, rules)
