@@ -8,3 +8,4 @@ pub mod RangeLaws
 pub mod JudgeLaws
 pub mod RoundTrip
 pub mod DecodedLaws
+pub mod ElementsLaws

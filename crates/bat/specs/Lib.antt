@@ -9,4 +9,5 @@ pub mod FramingMeaning
 pub mod ValueMeaning
 pub mod JudgingMeaning
 pub mod Back
+pub mod Elements
 pub mod Private

@@ -5,6 +5,7 @@
 ghost use Rattle.std.specs.Prelude.{◌≡◌};
 ghost use Rattle.octets.specs.declared.Refusal.TheVariants as Refusal;
 
+pub mod elements;
 pub mod framing;
 pub mod judging;
 pub mod ranges;

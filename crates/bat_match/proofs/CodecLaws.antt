@@ -104,7 +104,7 @@ few_codecs =
 
 -- ---- the codec at a place
 -- a single codec's contents are the octets that it is compared by
-single_octets : (d : ℕ) (e : Element) → is_single e ≡ true → codec_text (placed_codec d e).codec.codec ≡ e.contents
+pub single_octets : (d : ℕ) (e : Element) → is_single e ≡ true → codec_text (placed_codec d e).codec.codec ≡ e.contents
 single_octets d e p = codec_text_lem e.contents (single_right e p)
 
 -- at a place of s, which has t from there on, there are single codecs

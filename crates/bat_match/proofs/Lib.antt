@@ -2,6 +2,7 @@
 -- Assumes nothing.
 pub mod CodecLaws
 pub mod SearchLaws
+pub mod PlacedLaws
 pub mod ReducedLaws
 pub mod SelectionLaws
 pub mod PartLaws

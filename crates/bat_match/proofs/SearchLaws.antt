@@ -1,11 +1,10 @@
 -- A search through a list, codec by codec: those passed over are other codecs, so the ones from the place on decide.
 -- Assumes nothing.
-use Prim.Native.Nat.{ℕ, ◌+◌, ◌-◌, ◌≤◌, ◌<◌}
+use Prim.Native.Nat.{ℕ, ◌+◌, ◌-◌, ◌≤◌}
 use mathlib.Core.Path.{◌≡◌, refl, sym, ap, ◌∙◌}
 use mathlib.Core.Option.{Option-elim}
 use mathlib.Core.Bool.{Bool, true, false}
 use mathlib.Core.List.{List, [], ◌∷◌}
-use lib.Dec.{ltb}
 use lib.ListN.{length, drop, length-drop, drop_of_length-le}
 use native.Mathlib.Omega.{arith}
 use borrow.Author.Tests.{lt-ltb, le-ltb}
@@ -14,7 +13,6 @@ use Rattle.octets.specs.declared.Refusal.{Refusal}
 use Rattle.octets.specs.declared.Refusal.TheVariants.{NoCommonCodec}
 use Rattle.octets.specs.declared.Span.{Span}
 use Rattle.octets.specs.Spans.{text_of}
-use Rattle.octets.specs.Words.{same}
 use Rattle.octets.proofs.CaseLaws.{by_le}
 use Rattle.bat.specs.Framing.{whole}
 use Rattle.bat.proofs.WalkLaws.{front_nil, front_length, front_whole, by_front}
@@ -56,31 +54,6 @@ all_before s d =
     (λ h. rw (none_left s d h))
     (λ h. all_from (drop d s) d (length s) (omega (arith, length-drop d s)))
 
--- ---- whether a codec before n has the octets t, which is v, from a place of s on
-module _ (t s : List ℕ) (n at : ℕ) (v : Bool) (inv : has_octets t (starting_before n (codecs_at s at)) ≡ v) where
-  pub search_end : n ≤ at → false ≡ v
-  unfolding has_octets
-  search_end h = rw (none_from (drop at s) at n h) at inv
-
-  module _ (inside : at < n) (r : FramedCodec) (c : CodecAt s at r) where
-    step : has_octets t (c.codec ∷ starting_before n (codecs_at s r.end)) ≡ v
-    unfolding starting_before
-    step = let z : ltb c.codec.start n ≡ true = lt-ltb c.codec.start n (omega (arith, c.starts)) in rw (c.are, z) at inv
-
-    module _ (u : List ℕ) (is : u ≡ text_of s r.contents) (b : Bool) (told : b ≡ same t u) where
-      met : same t (codec_octets c.codec) ≡ b
-      met = sym (told ∙ ap (same t) (is ∙ c.reads))
-
-      pub search_here : b ≡ true → true ≡ v
-      unfolding has_octets
-      search_here p = rw (met, p) at step
-
-      pub search_on : b ≡ false → has_octets t (starting_before n (codecs_at s r.end)) ≡ v
-      unfolding has_octets
-      search_on p = rw (met, p) at step
-
-pub ruleset searching = (search_end, search_here, search_on)
-
 -- ---- the first codec in both lists: those from a place of s on have as many in os as all of them
 module _ (s : List ℕ) (from : ℕ) (os : List PlacedCodec) (at : ℕ) (inv : common (codecs_at s at) os ≡ common (codecs_at s from) os) where
   none_common : length s ≤ at → common (codecs_at s at) os ≡ []
@@ -114,6 +87,20 @@ module _ (s : List ℕ) (from : ℕ) (os : List PlacedCodec) (at : ℕ) (inv : c
     pub common_on : false ≡ has_octets u os → common (codecs_at s r.end) os ≡ common (codecs_at s from) os
     unfolding common
     common_on p = sym (rw (c.are, has_it false p)) ∙ inv
+
+-- the same with what the code asks of the other list t, from d on
+module _ (s : List ℕ) (from : ℕ) (t : List ℕ) (d at : ℕ) (inv : common (codecs_at s at) (codecs_at t d) ≡ common (codecs_at s from) (codecs_at t d)) (r : FramedCodec) (c : CodecAt s at r) (u : List ℕ) (is : u ≡ text_of s r.contents)
+    (b : Bool) (test : b ≡ has_octets u (codecs_at t d)) where
+  asked : (v : Bool) → b ≡ v → v ≡ has_octets u (codecs_at t d)
+  asked v h = sym h ∙ test
+
+  pub search_here : b ≡ true → all_singles (drop at s) ≡ true → FirstCommon s from (codecs_at t d) (Ok (record { at = at; len = r.end - at }))
+  search_here h singles = common_here s from (codecs_at t d) at inv r c u is singles (asked true h)
+
+  pub search_on : b ≡ false → common (codecs_at s r.end) (codecs_at t d) ≡ common (codecs_at s from) (codecs_at t d)
+  search_on h = common_on s from (codecs_at t d) at inv r c u is (asked false h)
+
+pub ruleset searching = (common_end, search_here, search_on)
 
 -- what is found is the choice of the match
 pub first_is : (s : List ℕ) (from : ℕ) (os : List PlacedCodec) (l : CodecList) (r : Result Span Refusal) → FirstCommon s from os r → r ≡ choice_of (match_of l (common (codecs_at s from) os))

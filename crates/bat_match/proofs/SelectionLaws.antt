@@ -1,6 +1,6 @@
 -- The flags are set codec by codec: the codecs that start before a place and those from it on are always the whole list.
 -- Assumes nothing.
-use Prim.Native.Nat.{ℕ, ◌≤◌, ◌<◌}
+use Prim.Native.Nat.{ℕ, ◌≤◌}
 use mathlib.Core.Path.{◌≡◌, refl, sym, ap, ◌∙◌}
 use mathlib.Core.Bool.{Bool, true, false}
 use mathlib.Core.List.{List, [], ◌∷◌, ◌++◌, append_assoc}
@@ -15,12 +15,12 @@ use Rattle.octets.proofs.CaseLaws.{by_lt}
 use Rattle.bat_match.specs.declared.FramedCodec.{FramedCodec}
 use Rattle.bat_match.specs.Matching.{PlacedCodec, has_octets}
 use Rattle.bat_match.specs.Private.{codecs_at, CodecAt, SharedAt, starting_before, flag_of, selection_after}
-use Rattle.bat_match.proofs.SearchLaws.{none_from, none_left, all_before}
+use Rattle.bat_match.proofs.SearchLaws.{none_from, none_left}
 
 -- ---- one flag
-module _ (t s : List ℕ) (d : ℕ) (before : List PlacedCodec) (a : Bool) (found : a ≡ has_octets t (starting_before (length s) (codecs_at s d))) where
+module _ (t s : List ℕ) (d : ℕ) (before : List PlacedCodec) (a : Bool) (found : a ≡ has_octets t (codecs_at s d)) where
   other_has : has_octets t (codecs_at s d) ≡ a
-  other_has = sym (found ∙ ap (has_octets t) (all_before s d))
+  other_has = sym found
 
   pub flag_none : a ≡ false → 0 ≡ flag_of t before (codecs_at s d)
   flag_none h = rw (other_has, h)
@@ -52,10 +52,6 @@ before_earlier m n (x ∷ xs) h =
     by_lt x.start m _
     (λ k. rw (lt-ltb x.start m k, lt-ltb x.start n (omega arith), ih))
     (λ k. rw (le-ltb x.start m k) ih)
-
--- a place that is passed is inside
-pub place_in : (at n : ℕ) → at < n → at ≤ n
-place_in at n h = omega arith
 
 -- P are the codecs of the list; at a place of s, those before it and those from it on are P
 module _ (s : List ℕ) (P : List PlacedCodec) where

@@ -5,6 +5,7 @@ ghost use Rattle.bat_match.specs.Matching.{has_octets};
 ghost use Rattle.bat_match.specs.Private.{all_singles, codecs_at, CodecAt, FirstCommon, starting_before};
 
 use crate::FramedCodec;
+use bat::elements::Elements;
 use bat::framing::{first_element, header_length, whole_length};
 use octets::spans::{after, text};
 use octets::words::equals;
@@ -31,8 +32,7 @@ pub(crate) fn codec_at(s: &[u8], at: usize) -> FramedCodec
     }
 }
 
-// The place of the first codec of the leading list that the other list also has, if there is one: a walk over
-// both lists, left at the first codec that is in both.
+// The place of the first codec of the leading list that the other list also has, if there is one.
 pub(crate) fn first_common(
     leading: &[u8],
     from: usize,
@@ -44,43 +44,34 @@ pub(crate) fn first_common(
     ensures { FirstCommon leading.now from (codecs_at other.now other_from) result }
 {
     let mut at = from;
-    let mut len = 0;
-    'search: while at < leading.len() {
+    while at < leading.len() {
         let c = codec_at(leading, at);
         let p = c.contents;
-        let contents = text(leading, p);
-        let mut to = other_from;
-        while to < other.len() {
-            let d = codec_at(other, to);
-            let q = d.contents;
-            if equals(contents, text(other, q)) {
-                len = c.end - at;
-                break 'search;
-            }
-            to = d.end;
+        if has_codec(other, other_from, text(leading, p)) {
+            return Ok(Span {
+                at: at,
+                len: c.end - at,
+            });
         }
         at = c.end;
     }
-    if len == 0 {
-        return Err(Refusal::NoCommonCodec);
-    }
-    Ok(Span { at: at, len: len })
+    Err(Refusal::NoCommonCodec)
+}
+
+// Whether one of the codecs of a list has these contents.
+pub(crate) fn has_codec(s: &[u8], from: usize, contents: &[u8]) -> bool
+    requires { all_singles (drop from s.now) ≡ true }
+    ensures { result ≡ has_octets contents.now (codecs_at s.now from) }
+{
+    Elements::new(s, from).any(|c| equals(contents, c.contents()))
 }
 
 // Whether one of the codecs of a list that start before `end` has these contents.
-pub(crate) fn has_codec(s: &[u8], from: usize, end: usize, contents: &[u8]) -> bool
-    requires s_value { all_singles (drop from s.now) ≡ true }
-    requires end_in_bounds { end ≤ length s.now }
+pub(crate) fn has_codec_before(s: &[u8], from: usize, end: usize, contents: &[u8]) -> bool
+    requires { all_singles (drop from s.now) ≡ true }
     ensures { result ≡ has_octets contents.now (starting_before end (codecs_at s.now from)) }
 {
-    let mut at = from;
-    while at < end {
-        let c = codec_at(s, at);
-        let p = c.contents;
-        if equals(contents, text(s, p)) {
-            return true;
-        }
-        at = c.end;
-    }
-    false
+    Elements::new(s, from)
+        .take_while(|c| c.at < end)
+        .any(|c| equals(contents, c.contents()))
 }

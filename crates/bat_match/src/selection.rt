@@ -3,7 +3,7 @@ ghost use Rattle.std.specs.Prelude.{◌≡◌, true, [], ◌≤◌, length, drop
 ghost use Rattle.octets.specs.Append.{Appends};
 ghost use Rattle.bat_match.specs.Private.{all_singles, codecs_at, SharedAt, starting_before, flag_of, selection_after};
 
-use crate::search::{codec_at, has_codec};
+use crate::search::{codec_at, has_codec, has_codec_before};
 use octets::append::push_octet;
 use octets::spans::text;
 
@@ -18,12 +18,11 @@ fn flag_of(
     other_from: usize,
 ) -> u8
     requires leading_value { all_singles (drop from leading.now) ≡ true }
-    requires at_in_bounds { at ≤ length leading.now }
     requires other_value { all_singles (drop other_from other.now) ≡ true }
     ensures { result ≡ flag_of contents.now (starting_before at (codecs_at leading.now from)) (codecs_at other.now other_from) }
 {
-    if has_codec(other, other_from, other.len(), contents) {
-        if has_codec(leading, from, at, contents) {
+    if has_codec(other, other_from, contents) {
+        if has_codec_before(leading, from, at, contents) {
             return 0;
         }
         return 1;

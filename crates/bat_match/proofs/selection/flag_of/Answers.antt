@@ -4,8 +4,8 @@ use borrow.Author.Rules.{rules}
 use Rattle.bat_match.proofs.SelectionLaws.{selecting}
 use Rattle.bat_match.proofs.selection.flag_of.Goals as goal
 
-pub returns-then-has_codec-2 : goal.returns-then-has_codec-2
-returns-then-has_codec-2 c = search (selecting, rules)
+pub returns-then-has_codec_before : goal.returns-then-has_codec_before
+returns-then-has_codec_before c = search (selecting, rules)
 
 pub returns-then-has_codec : goal.returns-then-has_codec
 returns-then-has_codec c = search (selecting, rules)
