@@ -1,6 +1,6 @@
 -- Laws of spans that lie inside their source: by how many texts there are, and where the end of the source cuts a span.
 -- Assumes nothing.
-use Prim.Native.Nat.{ℕ, zero, suc, ◌+◌, ◌-◌, ◌≤◌, ◌<◌}
+use Prim.Native.Nat.{ℕ, zero, suc, ◌+◌, ◌-◌, ◌≤◌, ◌<◌, min}
 use mathlib.Core.Path.{◌≡◌, refl, sym, ap, ◌∙◌}
 use mathlib.Core.List.{List, [], ◌∷◌, ◌++◌, map}
 use mathlib.Core.Bool.{Bool, true, false, ◌&&◌, and-false, and_assoc, and-eq-true_iff}
@@ -11,6 +11,7 @@ use native.Mathlib.Omega.{arith}
 use borrow.Author.Tests.{le-leb, lt-leb}
 use Rattle.octets.specs.declared.Span.{Span}
 use Rattle.octets.specs.Spans.{text_of, inside}
+use Rattle.octets.proofs.CaseLaws.{by_le}
 use Rattle.octets.proofs.SpanLaws.{text_past, text_cut, inside_yes}
 use Rattle.media.specs.declared.Texts.{Texts}
 use Rattle.media.specs.declared.Stream.{Stream as Places}
@@ -56,14 +57,18 @@ module _ (m : List ℕ) (sp : Span) where
   kept_none h = record { same = text_past m sp h; inside = le-leb (0 + 0) (length m) (omega arith) }
 
   module _ (h : sp.at ≤ length m) where
-    pub kept_cut : length m - sp.at < sp.len → KeptSpan m sp (record { at = sp.at; len = length m - sp.at })
+    kept_cut : length m - sp.at < sp.len → KeptSpan m sp (record { at = sp.at; len = length m - sp.at })
     unfolding text_of
     kept_cut k = record { same = text_cut m sp h k; inside = le-leb (sp.at + (length m - sp.at)) (length m) (omega arith) }
 
-    pub kept_whole : sp.len ≤ length m - sp.at → KeptSpan m sp sp
+    kept_whole : sp.len ≤ length m - sp.at → KeptSpan m sp sp
     kept_whole k = record { same = refl; inside = sym (inside_yes m sp h k) }
 
-pub ruleset kept_spans = (kept_none, kept_cut, kept_whole)
+    pub kept_part : KeptSpan m sp (record { at = sp.at; len = min sp.len (length m - sp.at) })
+    kept_part =
+        by_le sp.len (length m - sp.at) _
+        (λ k. let z : min sp.len (length m - sp.at) ≡ sp.len = omega arith in rw z (kept_whole k))
+        (λ k. let z : min sp.len (length m - sp.at) ≡ length m - sp.at = omega arith in rw z (kept_cut k))
 
 -- ---- the spans of several texts
 module _ (m : List ℕ) where

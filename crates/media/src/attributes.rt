@@ -12,21 +12,18 @@ use octets::spans::text;
 use texts::{after_blank, inner};
 
 // s, if its attributes are not too long.
+#[tactic(auto, unfolding(crate::specs::Attributes::fitting, crate::specs::Meaning::taken_by))]
 fn fitting(s: Stream, m: &[u8]) -> Option<Stream>
     ensures { taken_by m.now result ≡ fitting (stream_by m.now s) }
 {
-    if limit::attributes_fit(s, m) {
-        return Some(s);
-    }
-    None
+    limit::attributes_fit(s, m).then_some(s)
 }
 
 // The text of sp in m is empty.
 fn is_empty(sp: Span, m: &[u8]) -> bool
     ensures { result ≡ eqb (length (text_of m.now sp)) 0 }
 {
-    let t = text(m, sp);
-    t.len() == 0
+    text(m, sp).is_empty()
 }
 
 // The span in m of what comes after the first blank of t.
@@ -42,53 +39,42 @@ pub(crate) fn rtpmap(s: Stream, m: &[u8], v: Span, t: &[u8]) -> Option<Stream>
     requires { t.now ≡ text_of m.now v }
     ensures { taken_by m.now result ≡ rtpmap_of (stream_by m.now s) t.now }
 {
-    let old = s.rtpmap;
-    if is_empty(old, m) {
-        let n = token_number(t, 0)?;
-        let payload = s.payload as u16;
-        if n != payload {
-            return None;
-        }
-        let new = span_after_blank(m, v, t);
-        if is_empty(new, m) {
-            return None;
-        }
-        let mut next = s;
-        next.rtpmap = new;
-        return fitting(next, m);
+    if !is_empty(s.rtpmap, m) {
+        return None;
     }
-    None
+    let payload = token_number(t, 0)?;
+    if payload != s.payload as u16 {
+        return None;
+    }
+    let new = span_after_blank(m, v, t);
+    if is_empty(new, m) {
+        return None;
+    }
+    fitting(Stream { rtpmap: new, ..s }, m)
 }
 
 // s with this fmtp line.
 pub(crate) fn fmtp(s: Stream, m: &[u8], v: Span) -> Option<Stream>
     ensures { taken_by m.now result ≡ fmtp_of (stream_by m.now s) (text_of m.now v) }
 {
-    let x = s.fmtp;
-    if 3 <= x.as_slice().len() {
+    if 3 <= s.fmtp.as_slice().len() {
         return None;
     }
-    let mut next = s;
-    next.fmtp = x.with(v);
-    fitting(next, m)
+    let fmtp = s.fmtp.with(v);
+    fitting(Stream { fmtp, ..s }, m)
 }
 
 // s with this ptime line.
+#[tactic(auto, unfolding(crate::specs::Attributes::ptime_of, crate::specs::Attributes::with_ptime, crate::specs::Meaning::taken_by, crate::specs::Meaning::stream_by, octets::specs::Decimal::on_number))]
 pub(crate) fn ptime(s: Stream, m: &[u8], t: &[u8]) -> Option<Stream>
     ensures { taken_by m.now result ≡ ptime_of (stream_by m.now s) t.now }
 {
-    let old = s.ptime;
-    if old != 0 {
+    if s.ptime != 0 {
         return None;
     }
-    let n = read_number(t)?;
-    if n < 1 {
+    let ptime = u8::try_from(read_number(t)?).ok()?;
+    if ptime == 0 {
         return None;
     }
-    if 255 < n {
-        return None;
-    }
-    let mut next = s;
-    next.ptime = n as u8;
-    Some(next)
+    Some(Stream { ptime, ..s })
 }

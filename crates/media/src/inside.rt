@@ -23,39 +23,27 @@ fn texts_inside(x: Texts, m: &[u8]) -> bool
 }
 
 // The spans of s lie inside m.
+#[tactic(auto, unfolding(crate::specs::Meaning::stream_inside))]
 pub fn stream_inside(s: Stream, m: &[u8]) -> bool
     ensures { result ≡ stream_inside m.now s }
 {
-    let media = s.media;
-    let transport = s.transport;
-    let rtpmap = s.rtpmap;
-    let fmtp = s.fmtp;
-    if is_inside(m, media) {
-        if is_inside(m, transport) {
-            if is_inside(m, rtpmap) {
-                return texts_inside(fmtp, m);
-            }
-        }
-    }
-    false
+    is_inside(m, s.media)
+        && is_inside(m, s.transport)
+        && is_inside(m, s.rtpmap)
+        && texts_inside(s.fmtp, m)
 }
 
 // The part of sp that lies inside m.
 fn clamp(m: &[u8], sp: Span) -> Span
     ensures { KeptSpan m.now sp result }
 {
-    let at = sp.at;
-    let len = sp.len;
-    if m.len() < at {
+    if m.len() < sp.at {
         return Span { at: 0, len: 0 };
     }
-    if m.len() - at < len {
-        return Span {
-            at,
-            len: m.len() - at,
-        };
+    Span {
+        at: sp.at,
+        len: sp.len.min(m.len() - sp.at),
     }
-    sp
 }
 
 // The same for the spans of x, of which there are then at most three.
@@ -74,14 +62,11 @@ fn clamp_texts(m: &[u8], x: Texts) -> Texts
 pub fn keep_inside(s: Stream, m: &[u8]) -> Stream
     ensures { KeptInside m.now s result }
 {
-    let media = s.media;
-    let transport = s.transport;
-    let rtpmap = s.rtpmap;
-    let fmtp = s.fmtp;
-    let mut r = s;
-    r.media = clamp(m, media);
-    r.transport = clamp(m, transport);
-    r.rtpmap = clamp(m, rtpmap);
-    r.fmtp = clamp_texts(m, fmtp);
-    r
+    Stream {
+        media: clamp(m, s.media),
+        transport: clamp(m, s.transport),
+        rtpmap: clamp(m, s.rtpmap),
+        fmtp: clamp_texts(m, s.fmtp),
+        ..s
+    }
 }

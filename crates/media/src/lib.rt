@@ -129,16 +129,11 @@ pub fn read_media(m: &[u8], v: Span) -> Option<Stream>
 }
 
 // a, what comes after `a=`, is one of the three attributes that come only after a media line.
+#[tactic(auto, unfolding(crate::specs::Attributes::is_attribute))]
 pub fn is_attribute(a: &[u8]) -> bool
     ensures { result ≡ is_attribute a.now }
 {
-    if starts(b"rtpmap:", a) {
-        return true;
-    }
-    if starts(b"fmtp:", a) {
-        return true;
-    }
-    starts(b"ptime:", a)
+    starts(b"rtpmap:", a) || starts(b"fmtp:", a) || starts(b"ptime:", a)
 }
 
 // The stream s with the attribute line whose value, after `a=`, is the text of v in m.

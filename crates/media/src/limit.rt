@@ -13,13 +13,11 @@ use octets::spans::text;
 fn cap(n: usize) -> usize
     ensures { result ≡ capped n }
 {
-    if MOST_ATTRIBUTES < n {
-        return MOST_ATTRIBUTES + 1;
-    }
-    n
+    n.min(MOST_ATTRIBUTES + 1)
 }
 
 // How many digits n has.
+#[tactic(auto, using(crate::proofs::LimitLaws::widths))]
 fn width(n: u8) -> usize
     ensures { Width n result }
 {
@@ -33,19 +31,19 @@ fn width(n: u8) -> usize
 }
 
 // The octets of the rtpmap line of s: "a=rtpmap:", the payload, a blank and the text.
+#[tactic(auto, using(crate::proofs::LimitLaws::rtpmaps))]
 fn rtpmap_octets(s: Stream, m: &[u8]) -> usize
     ensures { result ≡ capped (octets_together (rtpmap_lines (stream_by m.now s))) }
 {
-    let sp = s.rtpmap;
-    let t = text(m, sp);
-    if t.len() == 0 {
+    let t = text(m, s.rtpmap);
+    if t.is_empty() {
         return 0;
     }
-    let payload = s.payload;
-    cap(cap(t.len()) + width(payload) + 10)
+    cap(cap(t.len()) + width(s.payload) + 10)
 }
 
 // The octets of an fmtp line with the text of sp: "a=fmtp:" and the text.
+#[tactic(auto, using(crate::proofs::LimitLaws::fmtp_capped))]
 fn fmtp_line(sp: Span, m: &[u8]) -> usize
     ensures { result ≡ capped (length (fmtp_text (text_of m.now sp))) }
 {
@@ -65,11 +63,9 @@ fn fmtp_octets(x: Texts, m: &[u8]) -> usize
 }
 
 // The rtpmap and fmtp lines of s, whose texts are in m, are not too long.
+#[tactic(auto, using(crate::proofs::LimitLaws::all_fit))]
 pub fn attributes_fit(s: Stream, m: &[u8]) -> bool
     ensures { result ≡ attributes_fit (stream_by m.now s) }
 {
-    let x = s.fmtp;
-    let a = rtpmap_octets(s, m);
-    let b = fmtp_octets(x, m);
-    a + b <= MOST_ATTRIBUTES
+    rtpmap_octets(s, m) + fmtp_octets(s.fmtp, m) <= MOST_ATTRIBUTES
 }

@@ -15,25 +15,12 @@ use octets::spans::after;
 pub fn inner(m: &[u8], sp: Span, p: Span) -> Span
     ensures { text_of m.now result ≡ text_of (text_of m.now sp) p }
 {
-    let at = sp.at;
-    let len = sp.len;
-    let a = p.at;
-    let l = p.len;
-    if m.len() < at {
+    if m.len() < sp.at || m.len() - sp.at < p.at || sp.len < p.at {
         return Span { at: 0, len: 0 };
-    }
-    if m.len() - at < a {
-        return Span { at: 0, len: 0 };
-    }
-    if len < a {
-        return Span { at: 0, len: 0 };
-    }
-    if l <= len - a {
-        return Span { at: at + a, len: l };
     }
     Span {
-        at: at + a,
-        len: len - a,
+        at: sp.at + p.at,
+        len: p.len.min(sp.len - p.at),
     }
 }
 
@@ -41,8 +28,7 @@ pub fn inner(m: &[u8], sp: Span, p: Span) -> Span
 pub fn skip(m: &[u8], sp: Span, n: usize) -> Span
     ensures { text_of m.now result ≡ drop n (text_of m.now sp) }
 {
-    let len = sp.len;
-    inner(m, sp, Span { at: n, len: len })
+    inner(m, sp, Span { at: n, len: sp.len })
 }
 
 // The span of what comes after the first blank of s.
@@ -84,6 +70,7 @@ pub fn cut<const N: usize>(s: &[u8]) -> Option<[Span; N]>
         if e <= from {
             return None;
         }
+        // Only the last token ends where s does.
         let is_last = i + 1 == N;
         let ends = s.len() <= e;
         if is_last != ends {

@@ -9,20 +9,22 @@ use Rattle.media.specs.Meaning.{stream_by, taken_by}
 use Rattle.media.proofs.LineLaws.{rtpmap_empty, rtpmap_read}
 use Rattle.media.proofs.attributes.rtpmap.Goals as goal
 
-pub returns-in_err-n : goal.returns-in_err-n
+pub returns-then-not-is_empty : goal.returns-then-not-is_empty
 unfolding rtpmap_of taken_by stream_by
-returns-in_err-n c = rw c.from_residual.ensures (search (cond_yes, flag_yes, on_bad, c.token_number.ensures, c.in_err-n.was, rules))
+returns-then-not-is_empty c = search (cond_no, flag_no, rules)
 
-pub returns-then-n-payload : goal.returns-then-n-payload
+pub returns-in_err-payload : goal.returns-in_err-payload
 unfolding rtpmap_of taken_by stream_by
-returns-then-n-payload c = search (cond_yes, cond_no, flag_yes, on_value, c.token_number.ensures, c.in_ok-n.was, and_no_left, ne_eqb, rules)
+returns-in_err-payload c = rw c.from_residual.ensures (search (cond_yes, flag_yes, on_bad, c.token_number.ensures, c.in_err-payload.was, rules))
 
-pub returns-then-is_empty-2 : goal.returns-then-is_empty-2
-returns-then-is_empty-2 c = search (rtpmap_empty, rules)
+pub returns-then-payload-s : goal.returns-then-payload-s
+unfolding rtpmap_of taken_by stream_by
+returns-then-payload-s c = search (cond_yes, cond_no, flag_yes, on_value, c.token_number.ensures, c.in_ok-payload.was, and_no_left, ne_eqb, rules)
 
 pub returns-then-is_empty : goal.returns-then-is_empty
-returns-then-is_empty c = search (rtpmap_read, rules)
+returns-then-is_empty c =
+    rtpmap_empty _ _ _ _ _ _ _ _ c.is_empty.ensures c.if-not-is_empty.false c.token_number.ensures c.in_ok-payload.was c.if-payload-s.false c.span_after_blank-new.ensures c.is_empty-2.ensures c.if-is_empty.true
 
 pub returns : goal.returns
-unfolding rtpmap_of taken_by stream_by
-returns c = search (cond_no, flag_no, rules)
+returns c =
+    rtpmap_read _ _ _ _ _ _ _ _ c.is_empty.ensures c.if-not-is_empty.false c.token_number.ensures c.in_ok-payload.was c.if-payload-s.false c.span_after_blank-new.ensures c.is_empty-2.ensures _ c.if-is_empty.false c.fitting.ensures

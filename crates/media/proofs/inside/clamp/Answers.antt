@@ -1,14 +1,10 @@
 -- `inside::clamp` meets its contract: what of a span lies past the end holds no octet.
 -- Assumes nothing.
-use borrow.Author.Rules.{rules}
-use Rattle.media.proofs.InsideLaws.{kept_spans}
+use Rattle.media.proofs.InsideLaws.{kept_none, kept_part}
 use Rattle.media.proofs.inside.clamp.Goals as goal
 
-pub returns-then-m-at : goal.returns-then-m-at
-returns-then-m-at c = search (kept_spans, rules)
-
-pub returns-then-m-at-2 : goal.returns-then-m-at-2
-returns-then-m-at-2 c = search (kept_spans, rules)
+pub returns-then-m-sp : goal.returns-then-m-sp
+returns-then-m-sp c = kept_none _ _ c.if-m-sp.true
 
 pub returns : goal.returns
-returns c = search (kept_spans, rules)
+returns c = let h = c.min.ensures in rw h (kept_part _ _ c.if-m-sp.false)
