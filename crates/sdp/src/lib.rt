@@ -54,13 +54,11 @@ fn pass_fours(m: &[u8], i: usize) -> usize
 fn find_end(m: &[u8], i: usize) -> usize
     ensures { Ends m.now i result }
 {
-    let start = pass_fours(m, i);
-    for n in start..m.len() {
-        if !is_plain(m[n]) {
-            return n;
-        }
+    let mut n = pass_fours(m, i);
+    while n < m.len() && is_plain(m[n]) {
+        n += 1;
     }
-    start.max(m.len())
+    n
 }
 
 // s has only octets that may be part of a line.

@@ -5,8 +5,8 @@ use Rattle.sdp.proofs.find_end.Goals as goal
 pub loop-n-preserved : goal.loop-n-preserved
 loop-n-preserved c = search (ending, rules)
 
-pub returns-then-not-is_plain : goal.returns-then-not-is_plain
-returns-then-not-is_plain c = search (ending, rules)
+pub returns-else-is_plain : goal.returns-else-is_plain
+returns-else-is_plain c = search (ending, rules)
 
-pub returns : goal.returns
-returns c = search (ending, rules)
+pub returns-after-loop-n : goal.returns-after-loop-n
+returns-after-loop-n c = search (ending, rules)
