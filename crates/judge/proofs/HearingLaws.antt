@@ -2,6 +2,7 @@
 -- Assumes nothing.
 use Prim.Native.Nat.{ℕ, ◌≤◌}
 use mathlib.Core.Path.{◌≡◌, refl, sym, ◌∙◌, ap}
+use mathlib.Core.Logic.{◌⊎◌, inl, inr}
 use mathlib.Core.List.{List}
 use mathlib.Core.Bool.{true, false}
 use mathlib.Core.Option.{Option, none, some, map}
@@ -98,13 +99,10 @@ module _ (k : MessageType) where
   unfolding heard_in bearer_in
   typed_accepted r m v p = rw ((typed_told m v p).1, r)
 
-  pub typed_confused : k ≡ Confused → (m : List ℕ) (v : ℕ) → read_message m ≡ typed v k → heard_in m taken.Declined ≡ some (heard m)
+  pub typed_declined : (k ≡ Confused) ⊎ (k ≡ Rejected) → (m : List ℕ) (v : ℕ) → read_message m ≡ typed v k → heard_in m taken.Declined ≡ some (heard m)
   unfolding heard_in
-  typed_confused r m v p = rw ((typed_told m v p).1, r)
-
-  pub typed_rejected : k ≡ Rejected → (m : List ℕ) (v : ℕ) → read_message m ≡ typed v k → heard_in m taken.Declined ≡ some (heard m)
-  unfolding heard_in
-  typed_rejected r m v p = rw ((typed_told m v p).1, r)
+  typed_declined (inl r) m v p = rw ((typed_told m v p).1, r)
+  typed_declined (inr r) m v p = rw ((typed_told m v p).1, r)
 
 -- ---- messages of version 1: o is what the message says, if it can be read to its end
 module _ (k : MessageType) (o : code.Option Description) where
@@ -140,13 +138,10 @@ module _ (k : MessageType) (o : code.Option Description) where
   pub described_accepted : k ≡ Accepted → (m : List ℕ) → Describes m k o → heard_in m (taken.Accepted o) ≡ some (heard m)
   described_accepted p m h = let (r, e, f, g) = described_told m h in g ∙ ap some (ap (λ (j : MessageType). heard_typed j 1 r) (sym p) ∙ sym e)
 
-  pub described_confused : k ≡ Confused → (m : List ℕ) → Describes m k o → heard_in m taken.Declined ≡ some (heard m)
+  pub described_declined : (k ≡ Confused) ⊎ (k ≡ Rejected) → (m : List ℕ) → Describes m k o → heard_in m taken.Declined ≡ some (heard m)
   unfolding heard_in
-  described_confused p m h = let (r, e, f, g) = described_told m h in ap some (ap (λ (j : MessageType). heard_typed j 1 r) (sym p) ∙ sym e)
-
-  pub described_rejected : k ≡ Rejected → (m : List ℕ) → Describes m k o → heard_in m taken.Declined ≡ some (heard m)
-  unfolding heard_in
-  described_rejected p m h = let (r, e, f, g) = described_told m h in ap some (ap (λ (j : MessageType). heard_typed j 1 r) (sym p) ∙ sym e)
+  described_declined (inl p) m h = let (r, e, f, g) = described_told m h in ap some (ap (λ (j : MessageType). heard_typed j 1 r) (sym p) ∙ sym e)
+  described_declined (inr p) m h = let (r, e, f, g) = described_told m h in ap some (ap (λ (j : MessageType). heard_typed j 1 r) (sym p) ∙ sym e)
 
 -- ---- a message that the code has read as y
 module _ (m : List ℕ) (y : Result Message Refusal) (is : reading_in m y ≡ some (read_message m)) where

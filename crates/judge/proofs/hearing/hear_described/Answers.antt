@@ -1,8 +1,7 @@
 -- `hear_described` meets its contract.
 -- Assumes nothing.
-use mathlib.Core.Logic.{inl, inr}
 use borrow.Author.Rules.{rules}
-use Rattle.judge.proofs.HearingLaws.{described_request, described_accepted, described_confused, described_rejected}
+use Rattle.judge.proofs.HearingLaws.{described_request, described_accepted, described_declined}
 use Rattle.judge.proofs.hearing.hear_described.Goals as goal
 
 pub returns-in-Request : goal.returns-in-Request
@@ -12,4 +11,4 @@ pub returns-in-Accepted : goal.returns-in-Accepted
 returns-in-Accepted c = search (described_accepted, rules)
 
 pub returns-in-Confused : goal.returns-in-Confused
-returns-in-Confused c = elim c.in-Confused.is [ inl p ↦ described_confused _ _ p | inr p ↦ described_rejected _ _ p ]
+returns-in-Confused c = search (described_declined, rules)
