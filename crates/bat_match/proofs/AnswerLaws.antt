@@ -11,11 +11,11 @@ use Rattle.octets.specs.Refusals.{refusal_number}
 use Rattle.octets.specs.declared.Span.{Span}
 use Rattle.bat_match.specs.declared.MatchAnswer.{MatchAnswer}
 use Rattle.bat_match.specs.declared.AnswerForC.{AnswerForC}
-use Rattle.bat_match.specs.declared.FramedList.{FramedList}
+use Rattle.bat_match.specs.declared.list.FramedList.{FramedList}
 use Rattle.bat_match.specs.Matching.{MatchResult, refused, matched, matching}
 use Rattle.bat_match.specs.Meaning.{matching_led, choice_of, reduced_answer, reduced_leaves, Matches, numbers_for, for_c, MatchesForC}
 use Rattle.bat_match.specs.Private.{codecs_at, FirstCommon, Writes, ListsAre, TwoListsAre}
-use Rattle.bat_match.proofs.ListLaws.{choice_are, choice_refused}
+use Rattle.bat_match.proofs.ListLaws.{choice_are, choice_refused, lists_are}
 
 -- nothing is written if the two strings are refused
 refused_writes : (x : MatchResult) (n : Refusal) (b : List ℕ) → Err n ≡ choice_of x → Writes x b (Err n) b
@@ -37,6 +37,11 @@ module _ (s t : List ℕ) (l o : FramedList) (lists : ListsAre s t l o) (c : Res
 
   pub answers_none : (n : Refusal) → c ≡ Err n → Matches (matching s t) b (record { choice = Err n; reduced = Err n }) b
   answers_none n e = both (matching s t) b (Err n) (Err n) b (sym e ∙ is) (refused_writes (matching s t) n b (sym e ∙ is))
+
+-- what two lists are matched as, their strings are
+pub answers_here : (s t : List ℕ) (x : Result (FramedList × FramedList) Refusal) → TwoListsAre s t x → (l o : FramedList) → x ≡ Ok (l, o) → (b : List ℕ) (r : MatchAnswer) (f : List ℕ)
+    → Matches (matching l.string.now o.string.now) b r f → Matches (matching s t) b r f
+answers_here s t x p l o e b r f m = let z = lists_are s t x p l o e in rw (z.first.string, z.second.string) at m
 
 -- two strings that are not both lists
 pub answers_refused : (s t : List ℕ) (x : Result (FramedList × FramedList) Refusal) → TwoListsAre s t x → (n : Refusal) → x ≡ Err n → (b : List ℕ) → Matches (matching s t) b (record { choice = Err n; reduced = Err n }) b

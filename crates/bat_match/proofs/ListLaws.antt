@@ -33,7 +33,7 @@ use Rattle.bat.proofs.WalkLaws.{front_within, front_length, front_ended}
 use Rattle.bat.proofs.DataLaws.{elements_ended, elements_unframed, elements_first, elements_next, taken_is}
 use Rattle.bat.proofs.DecodedLaws.{element_text_whole}
 use Rattle.bat.proofs.CountLaws.{frame_ended, frame_unframed, frame_is, frame_header, ok_is}
-use Rattle.bat_match.specs.declared.FramedList.{FramedList}
+use Rattle.bat_match.specs.declared.list.FramedList.{FramedList}
 use Rattle.bat_match.specs.Matching.{CodecList, is_decoded, is_codec_list, codec_list_of, only_list, common, refused, both, match_of, matching}
 use Rattle.bat_match.specs.Meaning.{choice_of}
 use Rattle.bat_match.specs.Private.{all_singles, codecs_at, FirstCommon, Alone, refused_alone, list, alone, lower, OneAtMost, list_in, ListIs, OneListIs, paired, ListsAre, TwoListsAre}
@@ -210,23 +210,24 @@ module _ (s t : List ℕ) (l o : FramedList) (are : ListsAre s t l o) where
   pub choice_are : (r : Result Span Refusal) → FirstCommon s l.from (codecs_at t o.from) r → r ≡ choice_of (matching s t)
   choice_are r f = first_is s l.from (codecs_at t o.from) (list_in s l) r f ∙ sym (ap choice_of match_are)
 
+are_at : (s t : List ℕ) (l o : FramedList) → ListsAre s t l o → (u v : List ℕ) → u ≡ s → v ≡ t → ListsAre u v l o
+are_at s t l o z u v p q = rw (p, q) z
+
 module _ (s t : List ℕ) (x : Result (FramedList × FramedList) Refusal) (p : TwoListsAre s t x) where
   pub lists_are : (l o : FramedList) → x ≡ Ok (l, o) → ListsAre s t l o
   unfolding TwoListsAre
   lists_are l o e = rw e at p
 
-  pub first_singles : (l o : FramedList) → x ≡ Ok (l, o) → all_singles (drop l.from s) ≡ true
-  first_singles l o e = (lists_are l o e).first.singles
-
-  pub second_singles : (l o : FramedList) → x ≡ Ok (l, o) → all_singles (drop o.from t) ≡ true
-  second_singles l o e = (lists_are l o e).second.singles
-
   pub lists_refused : (n : Refusal) → x ≡ Err n → matching s t ≡ refused n
   unfolding TwoListsAre
   lists_refused n e = rw e at p
 
-  pub choice_first : (l o : FramedList) → x ≡ Ok (l, o) → (r : Result Span Refusal) → FirstCommon s l.from (codecs_at t o.from) r → r ≡ choice_of (matching s t)
-  choice_first l o e r p = choice_are s t l o (lists_are l o e) r p
+  pub choice_first : (l o : FramedList) → x ≡ Ok (l, o) → (r : Result Span Refusal) → FirstCommon l.string.now l.from (codecs_at o.string.now o.from) r → r ≡ choice_of (matching s t)
+  choice_first l o e r p = let z = lists_are l o e in choice_are s t l o z r (rw (z.first.string, z.second.string) at p)
+
+  -- the lists are those of the strings that they hold
+  pub lists_here : (l o : FramedList) → x ≡ Ok (l, o) → ListsAre l.string.now o.string.now l o
+  lists_here l o e = let z = lists_are l o e in are_at s t l o z _ _ z.first.string z.second.string
 
   pub choice_refused : (n : Refusal) → x ≡ Err n → Err n ≡ choice_of (matching s t)
   unfolding choice_of
@@ -345,9 +346,13 @@ module _ (s : List ℕ) (few : OneAtMost s) where
             let y : decoding (element_in s f).identifier (element_in s f).contents ≡ unrecognised p.inner = cc reading in
             alone_if false (rw y (and-false (eqb (element_in s f).identifier 4)))
 
-        pub only_list_lem : (v : told.Value) → r ≡ Ok v → (h : ℕ) → HeaderLength f h → ListIs s (record { compatibility = f.compatibility; from = h })
+        value_of : (o : Option Value) → map decoded o ≡ some (decoding 4 c) → (w : Value) × (decoding 4 c ≡ decoded w)
+        value_of none p = absurd (let z : ◌≡◌ {A = ℕ} 0 1 = cc in omega arith)
+        value_of (some w) p = (w, cc)
+
+        pub only_singles_lem : (v : told.Value) → r ≡ Ok v → (h : ℕ) → HeaderLength f h → all_singles (drop h s) ≡ true
         unfolding decoding_in is_codec_list is_decoded
-        only_list_lem v q h m =
+        only_singles_lem v q h m =
             let d = element_in s f in
             let (w, p) = value_of (value_in c v) (rw q at read) in
             let y : decoding d.identifier d.contents ≡ decoded w = reading ∙ p in
@@ -355,15 +360,24 @@ module _ (s : List ℕ) (few : OneAtMost s) where
             let one = only_element.0 in
             let z : length (header d) ≡ h = frame_header s x is f e ∙ sym m.is in
             let rest : d.contents ≡ drop h s = only_contents s d one ∙ rw z in
-            record {
-              is = alone_if true k ∙ rw (z, rest, same_compatibility);
-              singles = rw (← rest) (only_singles s d one k);
-              short = few.short;
-              fits = λ i c x l. only_room s d one i c x (rw rest l);
-            }
-          where
-            value_of : (o : Option Value) → map decoded o ≡ some (decoding 4 c) → (w : Value) × (decoding 4 c ≡ decoded w)
-            value_of none p = absurd (let z : ◌≡◌ {A = ℕ} 0 1 = cc in omega arith)
-            value_of (some w) p = (w, cc)
+            rw (← rest) (only_singles s d one k)
 
-pub ruleset onlies = (only_ended, only_unframed, only_other, only_unrecognised, only_list_lem, ok_is)
+        pub only_list_lem : (v : told.Value) → r ≡ Ok v → (l : FramedList) → l.string.now ≡ s → l.compatibility ≡ f.compatibility → HeaderLength f l.from → ListIs s l
+        unfolding decoding_in is_codec_list is_decoded
+        only_list_lem v q l string compatibility m =
+            let d = element_in s f in
+            let (w, p) = value_of (value_in c v) (rw q at read) in
+            let y : decoding d.identifier d.contents ≡ decoded w = reading ∙ p in
+            let k : is_codec_list d ≡ true = rw (y, four_is) in
+            let one = only_element.0 in
+            let z : length (header d) ≡ l.from = frame_header s x is f e ∙ sym m.is in
+            let rest : d.contents ≡ drop l.from s = only_contents s d one ∙ rw z in
+            record {
+              string = string;
+              is = alone_if true k ∙ rw (z, rest, same_compatibility, compatibility);
+              singles = only_singles_lem v q l.from m;
+              short = few.short;
+              fits = λ i c x n. only_room s d one i c x (rw rest n);
+            }
+
+pub ruleset onlies = (only_ended, only_unframed, only_other, only_unrecognised, only_list_lem, only_singles_lem, ok_is)

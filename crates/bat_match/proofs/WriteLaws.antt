@@ -24,7 +24,7 @@ use Rattle.bat.specs.Writing.{codecs_text, identifier_of, contents_text, inner_c
 use Rattle.bat.proofs.DecodedLaws.{codecs_kept}
 use Rattle.bat_write.specs.Selected.{selected, selected_list}
 use Rattle.bat_write.proofs.SelectedLaws.{selected_is, codecs_shrink}
-use Rattle.bat_match.specs.declared.FramedList.{FramedList}
+use Rattle.bat_match.specs.declared.list.FramedList.{FramedList}
 use Rattle.bat_match.specs.Matching.{PlacedCodec, common, without, first_of_each, first_of, Match, reduced_text, match_of, matching}
 use Rattle.bat_match.specs.Meaning.{reduced_answer, reduced_leaves}
 use Rattle.bat_match.specs.Private.{codecs_at, FoundAt, selection_after, Writes, list_in, ListsAre}

@@ -1,5 +1,5 @@
 -- Private: used only by private functions of this crate. The codecs of a list from a place on, and a string by itself.
-use Rattle.std.specs.Prelude.{ℕ, ◌+◌, ◌≤◌, ◌<◌, ◌≡◌, List, [], ◌∷◌, ◌++◌, Bool, true, false, not, ◌&&◌, cond, length, drop, ltb, Result, Ok, Err}
+use Rattle.std.specs.Prelude.{ℕ, ◌+◌, ◌≤◌, ◌<◌, ◌≡◌, List, [], ◌∷◌, ◌++◌, true, not, ◌&&◌, cond, length, drop, ltb, Result, Ok, Err}
 use Rattle.std.proofs.Math.Option.{none, some, Option-elim}
 use Rattle.octets.specs.declared.Span.{Span}
 use Rattle.octets.specs.declared.Refusal.{Refusal}
@@ -7,19 +7,16 @@ use Rattle.octets.specs.declared.Refusal.TheVariants.{DataTooLong, Unframed, NoC
 use Rattle.octets.specs.Refusals.{refusal_number}
 use Rattle.octets.specs.Puts.{bounded}
 use Rattle.octets.specs.Spans.{text_of}
-use Rattle.bat.specs.Framing.{Element, fold, elements, most_octets}
-use Rattle.bat.specs.Values.{is_single, meant}
+use Rattle.bat.specs.Framing.{Element, elements, most_octets}
+use Rattle.bat.specs.Values.{meant}
 use Rattle.bat.specs.Writing.{element_text, bit_text}
-use Rattle.bat_match.specs.declared.FramedList.{FramedList}
+unfoldable pub use Rattle.bat_match.specs.Singles.{all_singles}
+use Rattle.bat_match.specs.declared.list.FramedList.{FramedList}
 use Rattle.bat_match.specs.declared.FramedCodec.{FramedCodec}
 use Rattle.bat_match.specs.Matching.{PlacedCodec, placed_codecs, CodecList, only_list, codec_octets, has_octets, has_codec, common, first_of, MatchResult, refused, match_of, matching}
 use Rattle.bat_match.specs.Meaning.{place_of, reduced_answer, reduced_leaves}
 
 -- ---- the codecs of a list from a place on
--- s is single codecs and nothing else
-unfoldable pub all_singles : List ℕ → Bool
-all_singles s = fold (λ e b. is_single e && b) false true s
-
 -- the codecs of the string s from d on
 abbrev pub codecs_at : List ℕ → ℕ → List PlacedCodec
 codecs_at s d = placed_codecs d (drop d s)
@@ -103,6 +100,7 @@ list_in s l = record { compatibility = meant l.compatibility; codecs = codecs_at
 
 -- l is the list in s
 pub record ListIs (s : List ℕ) (l : FramedList) : Type 0 where
+  pub string : l.string.now ≡ s
   pub is : alone s ≡ list (list_in s l)
   pub singles : all_singles (drop l.from s) ≡ true
   pub short : length s ≤ most_octets

@@ -2,6 +2,7 @@
 // list of the codecs that are in both, each once, written as an element.
 #![tactic(auto)]
 
+mod list;
 mod lists;
 mod search;
 mod selection;
@@ -11,6 +12,7 @@ ghost use Rattle.bat_match.specs.Matching.{matching};
 ghost use Rattle.bat_match.specs.Private.{codecs_at, FoundAt, ListsAre, Writes};
 ghost use Rattle.bat_match.specs.Meaning.{leader, matching_led, choice_of, PartAt, PartBy, Chosen, Matches, for_c, MatchesForC, own_leads_of};
 
+use crate::list::FramedList;
 use bat::MOST_OCTETS;
 use octets::spans::after;
 use octets::{Refusal, Span};
@@ -37,13 +39,6 @@ pub struct AnswerForC {
     pub written: usize,
 }
 
-// The codec list in a string: its first compatibility octet, and where its contents begin. They end with the string.
-#[derive(Clone, Copy)]
-struct FramedList {
-    compatibility: u8,
-    from: usize,
-}
-
 // A codec at a place of a list: the octets of its organisation, type and configuration, and the place where it ends.
 #[derive(Clone, Copy)]
 struct FramedCodec {
@@ -57,7 +52,7 @@ pub fn choose(leading: &[u8], other: &[u8]) -> Result<Span, Refusal>
     ensures { result ≡ choice_of (matching leading.now other.now) }
 {
     let (l, o) = lists::two_lists(leading, other)?;
-    search::first_common(leading, l.from, other, o.from)
+    search::first_common(l, o)
 }
 
 // The part of s that begins at a place and has len octets; the empty part at its front if it has no such part.
@@ -95,41 +90,42 @@ pub fn chosen_part<'a>(offered: &'a [u8], own: &'a [u8], own_leads: bool) -> &'a
     part_by(offered, choose(offered, own))
 }
 
-// Writes the reduced list of the two lists l and o into out. Its first codec is the chosen one, at the place p.
+// Writes the reduced list of the two lists into out. Its first codec is the chosen one, at the place p.
 fn put_reduced(
-    leading: &[u8],
-    l: FramedList,
-    other: &[u8],
-    o: FramedList,
+    leading: FramedList,
+    other: FramedList,
     p: Span,
     out: &mut [u8],
 ) -> Result<usize, Refusal>
-    requires lists_are { ListsAre leading.now other.now l o }
-    requires found_at { FoundAt leading.now l.from (codecs_at other.now o.from) p }
-    ensures { Writes (matching leading.now other.now) out.old result out.new }
+    requires lists_are { ListsAre leading.string.now other.string.now leading other }
+    requires found_at { FoundAt leading.string.now leading.from (codecs_at other.string.now other.from) p }
+    ensures { Writes (matching leading.entry.string.now other.entry.string.now) out.old result out.new }
 {
     let mut flags = [0u8; MOST_ELEMENTS];
-    let first = p.at;
-    let n = selection::select_codecs(leading, first, other, o.from, &mut flags);
-    bat_write::write_selected(after(leading, first), &flags[0..n], l.compatibility, out)
+    let chosen = FramedList {
+        string: leading.string,
+        compatibility: leading.compatibility,
+        from: p.at,
+    };
+    let n = selection::select_codecs(chosen, other, &mut flags);
+    bat_write::write_selected(
+        after(leading.string, p.at),
+        &flags[0..n],
+        leading.compatibility,
+        out,
+    )
 }
 
-// Matches the two lists l and o.
-fn match_both(
-    leading: &[u8],
-    l: FramedList,
-    other: &[u8],
-    o: FramedList,
-    out: &mut [u8],
-) -> MatchAnswer
-    requires { ListsAre leading.now other.now l o }
-    ensures { Matches (matching leading.now other.now) out.old result out.new }
+// Matches two lists.
+fn match_both(leading: FramedList, other: FramedList, out: &mut [u8]) -> MatchAnswer
+    requires { ListsAre leading.string.now other.string.now leading other }
+    ensures { Matches (matching leading.entry.string.now other.entry.string.now) out.old result out.new }
 {
-    let choice = search::first_common(leading, l.from, other, o.from);
+    let choice = search::first_common(leading, other);
     match choice {
         Ok(p) => MatchAnswer {
             choice: choice,
-            reduced: put_reduced(leading, l, other, o, p, out),
+            reduced: put_reduced(leading, other, p, out),
         },
         Err(e) => MatchAnswer {
             choice: choice,
@@ -143,7 +139,7 @@ fn match_strings(leading: &[u8], other: &[u8], out: &mut [u8]) -> MatchAnswer
     ensures { Matches (matching leading.now other.now) out.old result out.new }
 {
     match lists::two_lists(leading, other) {
-        Ok((l, o)) => match_both(leading, l, other, o, out),
+        Ok((l, o)) => match_both(l, o, out),
         Err(e) => MatchAnswer {
             choice: Err(e),
             reduced: Err(e),

@@ -2,7 +2,7 @@
 ghost use Rattle.std.specs.Prelude.{◌≡◌};
 ghost use Rattle.bat_match.specs.Private.{OneAtMost, OneListIs, TwoListsAre, lower};
 
-use crate::FramedList;
+use crate::list::FramedList;
 use bat::framing::{contents, first_element, header_length};
 use octets::Refusal;
 
@@ -19,6 +19,7 @@ fn only_list(s: &[u8]) -> Result<FramedList, Refusal>
     }
     match bat_read::decode(4, contents(s, f)) {
         Ok(_) => Ok(FramedList {
+            string: s,
             compatibility: f.compatibility,
             from: header_length(f),
         }),
@@ -48,7 +49,10 @@ fn lower(d: Refusal, e: Refusal) -> Refusal
 }
 
 // The lists in two strings, or what refuses them. The numbers are looked for in rising order, so the lower one refuses.
-pub(crate) fn two_lists(leading: &[u8], other: &[u8]) -> Result<(FramedList, FramedList), Refusal>
+pub(crate) fn two_lists<'a>(
+    leading: &'a [u8],
+    other: &'a [u8],
+) -> Result<(FramedList<'a>, FramedList<'a>), Refusal>
     ensures { TwoListsAre leading.now other.now result }
 {
     let a = one_list(leading);

@@ -5,6 +5,7 @@ ghost use Rattle.bat_match.specs.Matching.{has_octets};
 ghost use Rattle.bat_match.specs.Private.{all_singles, codecs_at, CodecAt, FirstCommon, starting_before};
 
 use crate::FramedCodec;
+use crate::list::FramedList;
 use bat::elements::Elements;
 use bat::framing::{first_element, header_length, whole_length};
 use octets::spans::{after, text};
@@ -33,21 +34,15 @@ pub(crate) fn codec_at(s: &[u8], at: usize) -> FramedCodec
 }
 
 // The place of the first codec of the leading list that the other list also has, if there is one.
-pub(crate) fn first_common(
-    leading: &[u8],
-    from: usize,
-    other: &[u8],
-    other_from: usize,
-) -> Result<Span, Refusal>
-    requires leading_value { all_singles (drop from leading.now) ≡ true }
-    requires other_value { all_singles (drop other_from other.now) ≡ true }
-    ensures { FirstCommon leading.now from (codecs_at other.now other_from) result }
+pub(crate) fn first_common(leading: FramedList, other: FramedList) -> Result<Span, Refusal>
+    ensures { FirstCommon leading.entry.string.now leading.entry.from (codecs_at other.entry.string.now other.entry.from) result }
 {
-    let mut at = from;
-    while at < leading.len() {
-        let c = codec_at(leading, at);
+    let s = leading.string;
+    let mut at = leading.from;
+    while at < s.len() {
+        let c = codec_at(s, at);
         let p = c.contents;
-        if has_codec(other, other_from, text(leading, p)) {
+        if has_codec(other, text(s, p)) {
             return Ok(Span {
                 at: at,
                 len: c.end - at,
@@ -59,19 +54,17 @@ pub(crate) fn first_common(
 }
 
 // Whether one of the codecs of a list has these contents.
-pub(crate) fn has_codec(s: &[u8], from: usize, contents: &[u8]) -> bool
-    requires { all_singles (drop from s.now) ≡ true }
-    ensures { result ≡ has_octets contents.now (codecs_at s.now from) }
+pub(crate) fn has_codec(list: FramedList, contents: &[u8]) -> bool
+    ensures { result ≡ has_octets contents.now (codecs_at list.entry.string.now list.entry.from) }
 {
-    Elements::new(s, from).any(|c| equals(contents, c.contents()))
+    Elements::new(list.string, list.from).any(|c| equals(contents, c.contents()))
 }
 
 // Whether one of the codecs of a list that start before `end` has these contents.
-pub(crate) fn has_codec_before(s: &[u8], from: usize, end: usize, contents: &[u8]) -> bool
-    requires { all_singles (drop from s.now) ≡ true }
-    ensures { result ≡ has_octets contents.now (starting_before end (codecs_at s.now from)) }
+pub(crate) fn has_codec_before(list: FramedList, end: usize, contents: &[u8]) -> bool
+    ensures { result ≡ has_octets contents.now (starting_before end (codecs_at list.entry.string.now list.entry.from)) }
 {
-    Elements::new(s, from)
+    Elements::new(list.string, list.from)
         .take_while(|c| c.at < end)
         .any(|c| equals(contents, c.contents()))
 }

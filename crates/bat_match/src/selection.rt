@@ -3,26 +3,18 @@ ghost use Rattle.std.specs.Prelude.{◌≡◌, true, [], ◌≤◌, length, drop
 ghost use Rattle.octets.specs.Append.{Appends};
 ghost use Rattle.bat_match.specs.Private.{all_singles, codecs_at, SharedAt, starting_before, flag_of, selection_after};
 
+use crate::list::FramedList;
 use crate::search::{codec_at, has_codec, has_codec_before};
 use octets::append::push_octet;
 use octets::spans::text;
 
 // The flag of the codec with these contents at a place of the leading list: 1 if the other list has it too, and it is not a
-// repeat of one from `from` on.
-fn flag_of(
-    contents: &[u8],
-    leading: &[u8],
-    from: usize,
-    at: usize,
-    other: &[u8],
-    other_from: usize,
-) -> u8
-    requires leading_value { all_singles (drop from leading.now) ≡ true }
-    requires other_value { all_singles (drop other_from other.now) ≡ true }
-    ensures { result ≡ flag_of contents.now (starting_before at (codecs_at leading.now from)) (codecs_at other.now other_from) }
+// repeat of one before it.
+fn flag_of(contents: &[u8], leading: FramedList, at: usize, other: FramedList) -> u8
+    ensures { result ≡ flag_of contents.now (starting_before at (codecs_at leading.entry.string.now leading.entry.from)) (codecs_at other.entry.string.now other.entry.from) }
 {
-    if has_codec(other, other_from, contents) {
-        if has_codec_before(leading, from, at, contents) {
+    if has_codec(other, contents) {
+        if has_codec_before(leading, at, contents) {
             return 0;
         }
         return 1;
@@ -30,26 +22,20 @@ fn flag_of(
     0
 }
 
-// Puts a flag into flags for each codec of the leading list from the place `first` on, where the chosen codec is, and answers how
-// many there are.
-pub(crate) fn select_codecs(
-    leading: &[u8],
-    first: usize,
-    other: &[u8],
-    other_from: usize,
-    flags: &mut [u8],
-) -> usize
-    requires shared_at { SharedAt leading.now first (codecs_at other.now other_from) }
-    requires other_value { all_singles (drop other_from other.now) ≡ true }
-    ensures { Appends flags.old 0 (selection_after [] (codecs_at leading.now first) (codecs_at other.now other_from)) result flags.new }
+// Puts a flag into flags for each codec of the leading list, the first of which is the chosen one, and answers how many
+// there are.
+pub(crate) fn select_codecs(leading: FramedList, other: FramedList, flags: &mut [u8]) -> usize
+    requires { SharedAt leading.string.now leading.from (codecs_at other.string.now other.from) }
+    ensures { Appends flags.old 0 (selection_after [] (codecs_at leading.entry.string.now leading.entry.from) (codecs_at other.entry.string.now other.entry.from)) result flags.new }
 {
-    let chosen = codec_at(leading, first);
+    let s = leading.string;
+    let chosen = codec_at(s, leading.from);
     let mut n = push_octet(1, flags, 0);
     let mut at = chosen.end;
-    while at < leading.len() {
-        let c = codec_at(leading, at);
+    while at < s.len() {
+        let c = codec_at(s, at);
         let p = c.contents;
-        let m = flag_of(text(leading, p), leading, first, at, other, other_from);
+        let m = flag_of(text(s, p), leading, at, other);
         n = push_octet(m, flags, n);
         at = c.end;
     }

@@ -2,14 +2,8 @@
 -- Assumes nothing.
 use borrow.Author.Rules.{rules}
 use Rattle.std.proofs.lemmas.Result.{err_from_is_err_and}
-use Rattle.bat_match.proofs.ListLaws.{first_singles, second_singles, choices}
+use Rattle.bat_match.proofs.ListLaws.{choices}
 use Rattle.bat_match.proofs.choose.Goals as goal
-
-pub first_common-requires-clause-leading_value : goal.first_common-requires-clause-leading_value
-first_common-requires-clause-leading_value c = search (first_singles, c.in_ok-l.was, rules)
-
-pub first_common-requires-clause-other_value : goal.first_common-requires-clause-other_value
-first_common-requires-clause-other_value c = search (second_singles, c.in_ok-l.was, rules)
 
 pub returns-in_err-l : goal.returns-in_err-l
 returns-in_err-l c =

@@ -9,10 +9,6 @@ pub returns-in_default : goal.returns-in_default
 unfolding OneListIs
 returns-in_default c = search (onlies, rules)
 
-pub returns-in_default-2 : goal.returns-in_default-2
-unfolding OneListIs
-returns-in_default-2 c = search (onlies, rules)
-
 pub returns-then-f-ne4 : goal.returns-then-f-ne4
 unfolding OneListIs
 returns-then-f-ne4 c = search (onlies, rules)
@@ -24,3 +20,6 @@ returns-in-Ok c = search (onlies, rules)
 pub returns-in-Err : goal.returns-in-Err
 unfolding OneListIs
 returns-in-Err c = search (onlies, rules)
+
+pub invariant_of-result : goal.invariant_of-result
+invariant_of-result c = record { singles = search (onlies, rules) }

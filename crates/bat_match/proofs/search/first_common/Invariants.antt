@@ -9,7 +9,7 @@ use Rattle.bat_match.specs.Private.{all_singles, codecs_at}
 use Rattle.bat_match.proofs.search.first_common.Given as goal
 
 abbrev pub invariant-loop-at : goal.invariant-loop-at
-invariant-loop-at l = (common (codecs_at l.leading l.at) (codecs_at l.other l.other_from) ≡ common (codecs_at l.leading l.from) (codecs_at l.other l.other_from)) × (all_singles (drop l.at l.leading) ≡ true)
+invariant-loop-at l = (common (codecs_at l.s l.at) (codecs_at l.other.string.now l.other.from) ≡ common (codecs_at l.s l.leading.from) (codecs_at l.other.string.now l.other.from)) × (all_singles (drop l.at l.s) ≡ true)
 
 abbrev pub decreases-loop-at : goal.decreases-loop-at
-decreases-loop-at l = length l.leading - l.at
+decreases-loop-at l = length l.s - l.at

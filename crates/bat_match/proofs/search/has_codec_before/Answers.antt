@@ -14,8 +14,8 @@ use Rattle.bat_match.proofs.search.has_codec_before.Goals as goal
 
 pub returns : goal.returns
 returns c =
-    let s = drop c.args.from c.args.s.now in
+    let s = drop c.args.list.from c.args.list.string.now in
     any_from_yields_List (λ (p : PlacedElement). same c.args.contents.now p.element.contents) c.any.new.self _ _ c.any.ensures.ran
-    (YieldsList-from_take_while _ (λ (p : PlacedElement). ltb p.at c.args.end) (YieldsList-from_first placed_in left (placed_elements c.args.from s) (ap left c.take_while.ensures.source ∙ c.new.ensures)) c.take_while.ensures.closure c.take_while.ensures.done (λ x b q k. search (rules, tests)))
+    (YieldsList-from_take_while _ (λ (p : PlacedElement). ltb p.at c.args.end) (YieldsList-from_first placed_in left (placed_elements c.args.list.from s) (ap left c.take_while.ensures.source ∙ c.new.ensures)) c.take_while.ensures.closure c.take_while.ensures.done (λ x b q k. search (rules, tests)))
     (λ x b q k. search (rules, tests))
-    ∙ any_before c.args.contents.now s c.args.from c.args.end c.requires
+    ∙ any_before c.args.contents.now s c.args.list.from c.args.end c.args.list.singles

@@ -11,10 +11,10 @@ use Rattle.bat_match.specs.Private.{all_singles, codecs_at, starting_before, sel
 use Rattle.bat_match.proofs.selection.select_codecs.Given as goal
 
 abbrev pub invariant-loop-at : goal.invariant-loop-at
-invariant-loop-at l = (all_singles (drop l.at l.leading) ≡ true) × (length l.flags ≡ length l.initial.flags)
-    × (codecs_at l.leading l.first ≡ starting_before l.at (codecs_at l.leading l.first) ++ codecs_at l.leading l.at)
-    × ((r : ℕ) (g : List ℕ) → Appends l.flags l.n (selection_after (starting_before l.at (codecs_at l.leading l.first)) (codecs_at l.leading l.at) (codecs_at l.other l.other_from)) r g
-    → Appends l.initial.flags l.initial.n (selection_after (starting_before l.initial.at (codecs_at l.leading l.first)) (codecs_at l.leading l.initial.at) (codecs_at l.other l.other_from)) r g)
+invariant-loop-at l = (all_singles (drop l.at l.s) ≡ true) × (length l.flags ≡ length l.initial.flags)
+    × (codecs_at l.s l.leading.from ≡ starting_before l.at (codecs_at l.s l.leading.from) ++ codecs_at l.s l.at)
+    × ((r : ℕ) (g : List ℕ) → Appends l.flags l.n (selection_after (starting_before l.at (codecs_at l.s l.leading.from)) (codecs_at l.s l.at) (codecs_at l.other.string.now l.other.from)) r g
+    → Appends l.initial.flags l.initial.n (selection_after (starting_before l.initial.at (codecs_at l.s l.leading.from)) (codecs_at l.s l.initial.at) (codecs_at l.other.string.now l.other.from)) r g)
 
 abbrev pub decreases-loop-at : goal.decreases-loop-at
-decreases-loop-at l = length l.leading - l.at
+decreases-loop-at l = length l.s - l.at
