@@ -9,6 +9,7 @@ use lib.Dec.{eqb}
 use native.Mathlib.Omega.{arith}
 use borrow.Author.Tests.{ne_eqb}
 use Rattle.std.specs.Prelude.{Option, Some, None}
+use Rattle.std.specs.Bool.{then_some}
 use Rattle.octets.specs.declared.Span.{Span}
 use Rattle.octets.specs.Spans.{text_of}
 use Rattle.octets.specs.Split.{has}
@@ -177,12 +178,18 @@ module _ (m : List ℕ) (s : Places) (letter : ℕ) (v : Span) where
     later_a e r q = record { is = λ a. rw (is, q) (later_attribute a (stream_by m s) (text_of m v) (told false e)) }
 
   module _ (no : letter ≡ 97 → ⊥) (w : Bool) (is : w ≡ has letter skipped_letters) where
-    pub later_skipped : w ≡ true → LaterLine m s letter v (Some s)
+    later_skipped : w ≡ true → LaterLine m s letter v (Some s)
     unfolding after_media_by taken_by
     later_skipped e = record { is = λ a. sym (later_rest a (stream_by m s) letter (text_of m v) no ∙ rw (← is, e)) }
 
-    pub later_other : w ≡ false → LaterLine m s letter v None
+    later_other : w ≡ false → LaterLine m s letter v None
     unfolding after_media_by taken_by
     later_other e = record { is = λ a. sym (later_rest a (stream_by m s) letter (text_of m v) no ∙ rw (← is, e)) }
 
-pub ruleset laters = (later_ipbcp, later_a, later_skipped, later_other)
+    pub later_else : (r : Option Places) → r ≡ then_some w s → LaterLine m s letter v r
+    later_else r e =
+        by_bool w _
+        (λ f. rw (e, f) (later_skipped f))
+        (λ f. rw (e, f) (later_other f))
+
+pub ruleset laters = (later_ipbcp, later_a)

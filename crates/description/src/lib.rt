@@ -23,6 +23,7 @@ pub struct Preamble {
 }
 
 // The preamble before the first line.
+#[tactic(auto, unfolding(crate::specs::Meaning::preamble_by, crate::specs::Draft::empty_draft))]
 pub fn start() -> Preamble
     ensures { preamble_by result ≡ empty_draft }
 {
@@ -33,54 +34,41 @@ pub fn start() -> Preamble
 }
 
 // A line of this letter whose value is t is an ipbcp line.
+#[tactic(auto, unfolding(crate::specs::Meaning::is_ipbcp))]
 pub fn is_ipbcp(letter: u8, t: &[u8]) -> bool
     ensures { result ≡ is_ipbcp letter t.now }
 {
-    if letter == b'a' {
-        return starts(b"ipbcp:", t);
-    }
-    false
+    letter == b'a' && starts(b"ipbcp:", t)
 }
 
 // A line of this letter whose value is t is skipped, anywhere before the media line.
+#[tactic(auto, unfolding(crate::specs::Meaning::is_skipped))]
 pub fn is_skipped(letter: u8, t: &[u8]) -> bool
     ensures { result ≡ is_skipped letter t.now }
 {
     if letter != b'a' {
         return lines::is_skipped_letter(letter);
     }
-    if starts(b"ipbcp:", t) {
-        return false;
-    }
-    !media::is_attribute(t)
+    !starts(b"ipbcp:", t) && !media::is_attribute(t)
 }
 
 // The preamble p with the line of this letter whose value is t. The ipbcp line and the media line are not part of it.
+#[tactic(auto, using(crate::proofs::FieldLaws::fields))]
 pub fn preamble_line(p: Preamble, letter: u8, t: &[u8]) -> Option<Preamble>
     ensures { preamble_in result ≡ preamble_line (preamble_by p) letter t.now }
 {
-    if letter == b'v' {
-        return lines::needed(p, 0, equals(b"0", t));
+    match letter {
+        b'v' => lines::needed(p, 0, equals(b"0", t)),
+        b'o' => lines::needed(p, 1, lines::is_origin(t)),
+        b's' => lines::needed(p, 2, true),
+        b'c' => lines::connection_line(p, t),
+        b't' => lines::needed(p, 4, lines::is_time(t)),
+        _ => is_skipped(letter, t).then_some(p),
     }
-    if letter == b'o' {
-        return lines::needed(p, 1, lines::is_origin(t));
-    }
-    if letter == b's' {
-        return lines::needed(p, 2, true);
-    }
-    if letter == b'c' {
-        return lines::connection_line(p, t);
-    }
-    if letter == b't' {
-        return lines::needed(p, 4, lines::is_time(t));
-    }
-    if is_skipped(letter, t) {
-        return Some(p);
-    }
-    None
 }
 
 // The stream s with the line of this letter after its media line; the line's value is the text of v in m.
+#[tactic(auto, using(crate::proofs::FieldLaws::laters))]
 pub fn later_line(s: Stream, m: &[u8], letter: u8, v: Span) -> Option<Stream>
     ensures { LaterLine m.now s letter v result }
 {
@@ -90,8 +78,5 @@ pub fn later_line(s: Stream, m: &[u8], letter: u8, v: Span) -> Option<Stream>
         }
         return media::add_attribute(s, m, v);
     }
-    if lines::is_skipped_letter(letter) {
-        return Some(s);
-    }
-    None
+    lines::is_skipped_letter(letter).then_some(s)
 }

@@ -8,31 +8,21 @@ use crate::Preamble;
 use address::Address;
 use address::ipv4::read_ipv4;
 use address::ipv6::read_ipv6;
-use octets::parts::find_from;
 use octets::spans::text;
 use octets::words::{digit_run, equals};
 use texts::cut;
 
 // p with the needed line that follows n others, if that line is right.
+#[tactic(auto, unfolding(crate::specs::Draft::needed, crate::specs::Draft::reached, crate::specs::Meaning::preamble_in, crate::specs::Meaning::preamble_by))]
 pub(crate) fn needed(p: Preamble, n: u8, right: bool) -> Option<Preamble>
     requires { n < 5 }
     ensures { preamble_in result ≡ needed n right (preamble_by p) }
 {
-    let had = p.had;
-    if had != n {
-        return None;
-    }
-    if right {
-        let address = p.address;
-        return Some(Preamble {
-            had: n + 1,
-            address,
-        });
-    }
-    None
+    (p.had == n && right).then_some(Preamble { had: n + 1, ..p })
 }
 
 // t has six tokens, the fourth IN, the fifth a family.
+#[tactic(auto, using(crate::proofs::LineLaws::origins))]
 pub(crate) fn is_origin(t: &[u8]) -> bool
     ensures { result ≡ is_origin t.now }
 {
@@ -40,17 +30,12 @@ pub(crate) fn is_origin(t: &[u8]) -> bool
         return false;
     };
     let [_, _, _, net, family, _] = tokens;
-    if equals(b"IN", text(t, net)) {
-        let family = text(t, family);
-        if equals(b"IP4", family) {
-            return true;
-        }
-        return equals(b"IP6", family);
-    }
-    false
+    let family = text(t, family);
+    equals(b"IN", text(t, net)) && (equals(b"IP4", family) || equals(b"IP6", family))
 }
 
 // The address s of the family that the word names.
+#[tactic(auto, unfolding(crate::specs::Draft::address_of))]
 fn address_of(family: &[u8], s: &[u8]) -> Option<Address>
     ensures { result ≡ address_of family.now s.now }
 {
@@ -64,6 +49,7 @@ fn address_of(family: &[u8], s: &[u8]) -> Option<Address>
 }
 
 // The address of a connection: t is IN, a family and an address.
+#[tactic(auto, using(crate::proofs::LineLaws::connections))]
 fn connection_of(t: &[u8]) -> Option<Address>
     ensures { result ≡ connection_of t.now }
 {
@@ -75,11 +61,11 @@ fn connection_of(t: &[u8]) -> Option<Address>
 }
 
 // The preamble p with the line `c=` of t.
+#[tactic(auto, using(crate::proofs::LineLaws::connection_lines))]
 pub(crate) fn connection_line(p: Preamble, t: &[u8]) -> Option<Preamble>
     ensures { preamble_in result ≡ connection_line (preamble_by p) t.now }
 {
-    let had = p.had;
-    if had != 3 {
+    if p.had != 3 {
         return None;
     }
     let address = connection_of(t)?;
@@ -87,6 +73,7 @@ pub(crate) fn connection_line(p: Preamble, t: &[u8]) -> Option<Preamble>
 }
 
 // t is two runs of digits.
+#[tactic(auto, using(crate::proofs::LineLaws::times))]
 pub(crate) fn is_time(t: &[u8]) -> bool
     ensures { result ≡ is_time t.now }
 {
@@ -94,17 +81,12 @@ pub(crate) fn is_time(t: &[u8]) -> bool
         return false;
     };
     let [start, stop] = tokens;
-    if digit_run(text(t, start)) {
-        return digit_run(text(t, stop));
-    }
-    false
+    digit_run(text(t, start)) && digit_run(text(t, stop))
 }
 
 // Lines of this letter are skipped.
 pub(crate) fn is_skipped_letter(letter: u8) -> bool
     ensures { result ≡ has letter skipped_letters }
 {
-    let letters = b"iuepbzkr";
-    let e = find_from(letters, letter, 0);
-    e < letters.len()
+    b"iuepbzkr".contains(&letter)
 }

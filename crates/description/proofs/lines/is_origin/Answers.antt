@@ -1,17 +1,9 @@
--- `lines::is_origin` meets its contract: the line has six tokens, or not, and two of them are tested.
+-- `lines::is_origin` meets its contract: six tokens are cut, and two of them tested.
 -- Assumes nothing.
-use borrow.Author.Rules.{rules}
-use Rattle.description.proofs.LineLaws.{origins}
+use Rattle.description.proofs.LineLaws.{origin_six}
 use Rattle.description.proofs.lines.is_origin.Goals as goal
 
-pub returns-in_default : goal.returns-in_default
-returns-in_default c = search (origins, rules)
-
-pub returns-then-equals-2 : goal.returns-then-equals-2
-returns-then-equals-2 c = search (origins, rules)
-
-pub returns-then-equals : goal.returns-then-equals
-returns-then-equals c = search (origins, rules)
-
-pub returns : goal.returns
-returns c = search (origins, rules)
+pub returns-else-equals-2 : goal.returns-else-equals-2
+returns-else-equals-2 c =
+    origin_six _ _ c.cut.ensures _ c.in-Some.is _ c.text.ensures _ c.equals.ensures c.if-equals.true _ c.text-family.ensures _ c.equals-then-equals.ensures
+    c.if-equals-2.false _ c.equals-else-equals-2.ensures

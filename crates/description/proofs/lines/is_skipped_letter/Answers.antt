@@ -1,8 +1,8 @@
--- `lines::is_skipped_letter` meets its contract: the letter is found among those that are skipped, or not.
+-- `lines::is_skipped_letter` meets its contract: it looks for the letter in the definition's list.
 -- Assumes nothing.
-use borrow.Author.Rules.{rules}
-use Rattle.description.proofs.LineLaws.{found_has}
+use Rattle.octets.specs.Split.{has}
 use Rattle.description.proofs.lines.is_skipped_letter.Goals as goal
 
 pub returns : goal.returns
-returns c = search (found_has, rules)
+unfolding has
+returns c = c.contains.ensures.value

@@ -1,14 +1,8 @@
--- `lines::is_time` meets its contract: the line has two tokens, or not.
+-- `lines::is_time` meets its contract: two tokens are cut and tested.
 -- Assumes nothing.
-use borrow.Author.Rules.{rules}
-use Rattle.description.proofs.LineLaws.{times}
+use Rattle.description.proofs.LineLaws.{time_is}
 use Rattle.description.proofs.lines.is_time.Goals as goal
 
-pub returns-in_default : goal.returns-in_default
-returns-in_default c = search (times, rules)
-
 pub returns-then-digit_run : goal.returns-then-digit_run
-returns-then-digit_run c = search (times, rules)
-
-pub returns : goal.returns
-returns c = search (times, rules)
+returns-then-digit_run c =
+    time_is _ _ c.cut.ensures _ c.in-Some.is _ c.text.ensures _ c.digit_run.ensures c.if-digit_run.true _ c.text-then-digit_run.ensures _ c.digit_run-then-digit_run.ensures
