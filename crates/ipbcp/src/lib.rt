@@ -107,6 +107,7 @@ fn read_stream(m: &[u8], from: usize) -> Option<Stream>
 }
 
 // A message of this type says more than its type.
+#[tactic(auto, using(crate::proofs::ReadLaws::described_yes, crate::proofs::ReadLaws::described_no))]
 fn is_described(kind: MessageType) -> bool
     ensures { result ≡ is_described kind }
 {
@@ -131,6 +132,7 @@ fn by_type(m: &[u8]) -> Result<Message, Refusal>
 }
 
 // The answer to m, which is only this version and type; of the lines from `from` on, only the form is checked.
+#[tactic(auto, using(crate::proofs::ReadLaws::alones))]
 fn type_alone(h: Head, m: &[u8], from: usize) -> Result<Message, Refusal>
     requires { TypeAlone m.now h from }
     ensures { reading_in m.now result ≡ some (by_head m.now (head_in m.now)) }
@@ -145,6 +147,7 @@ fn type_alone(h: Head, m: &[u8], from: usize) -> Result<Message, Refusal>
 }
 
 // The answer to m, a Request or Accepted of version 1, whose lines from `from` on come after the ipbcp line.
+#[tactic(auto, using(crate::proofs::ReadLaws::describing))]
 fn describe(kind: MessageType, address: Address, m: &[u8], from: usize) -> Result<Message, Refusal>
     requires { Describes m.now kind address from }
     ensures { reading_in m.now result ≡ some (by_head m.now (head_in m.now)) }
@@ -163,6 +166,7 @@ fn describe(kind: MessageType, address: Address, m: &[u8], from: usize) -> Resul
 }
 
 // The answer to m, whose lines before `from` are right; the last of them is the ipbcp line, which says h.
+#[tactic(auto, using(crate::proofs::ReadLaws::typeds))]
 fn read_typed(h: Option<Head>, address: Address, m: &[u8], from: usize) -> Result<Message, Refusal>
     requires { Reached m.now h address from }
     ensures { reading_in m.now result ≡ some (by_head m.now (head_in m.now)) }
@@ -203,6 +207,7 @@ fn read_short(m: &[u8]) -> Result<Message, Refusal>
 }
 
 // What m says.
+#[tactic(auto, using(crate::proofs::ReadLaws::reading))]
 pub fn read(m: &[u8]) -> Result<Message, Refusal>
     ensures { reading_in m.now result ≡ some (read_message m.now) }
 {

@@ -11,6 +11,7 @@ use octets::words::equals;
 use texts::cut;
 
 // The type that w names.
+#[tactic(auto, unfolding(crate::specs::Types::type_named, crate::specs::Types::type_word, crate::specs::Private::named_in))]
 fn read_word(w: &[u8]) -> Option<MessageType>
     ensures { named_in result ≡ type_named w.now }
 {
@@ -46,6 +47,7 @@ fn head_of(s: &[u8]) -> Option<Head>
 }
 
 // s without the blank at its start, if it has one.
+#[tactic(auto, using(crate::proofs::TypeLaws::blanks))]
 fn without_blank(s: &[u8]) -> &[u8]
     ensures { result.now ≡ without_blank s.now }
 {
