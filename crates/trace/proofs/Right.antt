@@ -11,24 +11,23 @@ use lib.Dec.{eqb, ltb}
 use native.Mathlib.Omega.{arith}
 use borrow.Author.Tests.{le-leb, ltb-true, eqb-false}
 use Rattle.octets.specs.Chain.{when}
-use Rattle.octets.specs.declared.Number.{Number}
-use Rattle.octets.specs.declared.Number.TheVariants.{Value, Bad}
+use Rattle.std.specs.Prelude as code
+use Rattle.std.specs.Prelude.{Some, None}
+use Rattle.octets.specs.declared.append.Cursor.{Cursor}
 use Rattle.octets.specs.Decimal.{all_digits, read_number, on_number}
 use Rattle.octets.specs.Split.{part_at}
 use Rattle.octets.proofs.CaseLaws.{by_bool}
 use Rattle.address.specs.declared.Address.{Address}
-use Rattle.address.specs.declared.Parsed.{Parsed}
-use Rattle.address.specs.declared.Parsed.TheVariants.{Unicast, Unreadable}
-use Rattle.address.specs.Kinds.{on_parsed}
+use Rattle.address.specs.Kinds.{on_address}
 use Rattle.configuration.specs.Configuration.{Codec, fixed, named, Configuration, most_codecs, right_codec, all_right, right_codecs, right_general, right_configuration}
 use Rattle.trace_read.specs.Configuring.{either_family, general, usable, general_fields, general_of, general_in, rightly, payload_of, codec_of, with_codec, added_to, codec_for, codec_in, is_codec_line}
 use Rattle.trace_read.specs.Words.{fields_of, first_is, general_word}
-use Rattle.trace.specs.Trace.{Trace, start, configuring, running, stopped, TraceLine, verdict_effect, event_effect, configuring_effect, no_codec, first_effect, line_effect}
-use Rattle.trace.specs.declared.Phase.TheVariants.{Running}
 use Rattle.trace.specs.declared.Session.{Session}
-use Rattle.trace.specs.declared.Stepped.{Stepped}
+use Rattle.trace.specs.declared.Session.TheVariants.{Running}
+use Rattle.trace.specs.Trace.{Trace, start, configuring, running, stopped, TraceLine, verdict_effect, event_effect, configuring_effect, no_codec, first_effect, line_effect}
 use Rattle.configuration.specs.Meaning.{configuration_by, right_config}
-use Rattle.trace.specs.Meaning.{trace_in, trace_by, Begins, Does}
+use Rattle.endpoint.specs.declared.Endpoint.{Endpoint}
+use Rattle.trace.specs.Meaning.{trace_by, inside_by, Begins, Does}
 use Rattle.trace.specs.Right.{Begun, Right, Sound}
 
 -- ---- what holds of x, if there is an x
@@ -57,15 +56,15 @@ module _ {A : Type 0} (P : A → Type 0) where
   each_right true x h = each_some x (h refl)
   each_right false x h = each_none
 
-  each_number : (y : Number) (f : ℕ → Option A) → ((n : ℕ) → Each P (f n)) → Each P (on_number y f none)
+  each_number : (y : code.Option ℕ) (f : ℕ → Option A) → ((n : ℕ) → Each P (f n)) → Each P (on_number y f none)
   unfolding on_number
-  each_number (Value n) f h = h n
-  each_number Bad f h = each_none
+  each_number (Some n) f h = h n
+  each_number None f h = each_none
 
-  each_parsed : (y : Parsed) (f : Address → Option A) → ((a : Address) → Each P (f a)) → Each P (on_parsed y f none)
-  unfolding on_parsed
-  each_parsed (Unicast a) f h = h a
-  each_parsed Unreadable f h = each_none
+  each_address : (y : code.Option Address) (f : Address → Option A) → ((a : Address) → Each P (f a)) → Each P (on_address y f none)
+  unfolding on_address
+  each_address (Some a) f h = h a
+  each_address None f h = each_none
 
 -- ---- the `G` line
 usable_begun : (own : Address) (port least most t1 t2 : ℕ) → Each Begun (usable (general own port least most t1 t2))
@@ -78,7 +77,7 @@ general_begun : (s : List ℕ) → Each Begun (general_in s)
 unfolding general_of general_fields
 general_begun s =
     each_cond Begun (eqb (length (fields_of s)) 7 && first_is general_word (fields_of s)) _
-    (each_parsed Begun (either_family (part_at 1 (fields_of s))) _
+    (each_address Begun (either_family (part_at 1 (fields_of s))) _
     (λ own. each_number Begun (read_number (part_at 2 (fields_of s))) _
     (λ port. each_number Begun (read_number (part_at 3 (fields_of s))) _
     (λ least. each_number Begun (read_number (part_at 4 (fields_of s))) _
@@ -157,14 +156,13 @@ trace_right d stopped l room h = tt
 pub begun_sound : (s : Session) → Begins s → Sound s
 begun_sound s h = record { right = rw h.is tt; inside = h.inside }
 
-pub step_sound : (s : Session) (d : Bool) (l : TraceLine) (room room' out out' : List ℕ) (at : ℕ) (r : Stepped) → Sound s
-    → Does s.endpoint (line_effect d (trace_by s) l room) room' out out' at r → Sound r.session
-step_sound s d l room room' out out' at r h x =
+pub step_sound : (s : Session) (d : Bool) (l : TraceLine) (room room' : List ℕ) (k f : Cursor) (r : Session) → Sound s
+    → Does (inside_by s) (line_effect d (trace_by s) l room) room' k f r → Sound r
+step_sound s d l room room' k f r h x =
     record { right = rw x.session (trace_right d (trace_by s) l room h.right); inside = x.inside h.inside }
 
-pub running_right : (s : Session) → Sound s → s.phase ≡ Running → right_config s.endpoint.config ≡ true
-unfolding right_config trace_in
-running_right s h e =
-    let r = h.right in
-    let q : right_configuration (configuration_by s.endpoint.config) ≡ true = rw e at r in
-    rw (h.inside, q)
+pub running_right : (e : Endpoint) (n : ℕ) → Sound (Running e n) → right_config e.config ≡ true
+unfolding right_config trace_by inside_by
+running_right e n h =
+    let r : right_configuration (configuration_by e.config) ≡ true = h.right in
+    rw (h.inside, r)

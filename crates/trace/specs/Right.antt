@@ -1,9 +1,8 @@
 -- What holds of the configuration that the lines of a trace have made so far.
 use Rattle.std.specs.Prelude.{◌≤◌, ◌≡◌, true, length}
 use Rattle.configuration.specs.Configuration.{Configuration, most_codecs, all_right, right_general, right_configuration}
-use Rattle.configuration.specs.Meaning.{config_inside}
 use Rattle.trace.specs.declared.Session.{Session}
-use Rattle.trace.specs.Meaning.{trace_by}
+use Rattle.trace.specs.Meaning.{trace_by, inside_by}
 use Rattle.trace.specs.Trace.{Trace, start, configuring, running, stopped}
 
 -- the configuration is valid, except that it may have no codec yet
@@ -22,4 +21,4 @@ Right stopped = Unit {0}
 -- the same of a session of the code; no count or length in its configuration goes past its array
 pub record Sound (s : Session) : Type 0 where
   pub right : Right (trace_by s)
-  pub inside : config_inside s.endpoint.config ≡ true
+  pub inside : inside_by s ≡ true

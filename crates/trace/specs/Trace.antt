@@ -1,16 +1,18 @@
 -- Document 01, "Trace program": a trace, line by line. What a line prints and leaves follows from what the lines before it have left:
 -- `verdict_effect` for an event on which a verdict is given, `event_effect` for a line once events come, `configuring_effect` and
 -- `first_effect` for the lines before that, `line_effect` for any line.
-use Rattle.std.specs.Prelude.{ℕ, ◌+◌, ◌-◌, ◌^◌, min, List, [], ◌∷◌, ◌++◌, Bool, cond, length, take, drop, eqb, ltb}
+use Rattle.std.specs.Prelude.{ℕ, ◌+◌, ◌-◌, ◌^◌, min, List, [], ◌∷◌, ◌++◌, Bool, cond, length, take, drop, eqb, ltb, Result}
 use Rattle.std.proofs.Math.Option.{Option, none, some}
 use Rattle.octets.specs.Chain.{when}
 use Rattle.octets.specs.Text.{lf}
+use Rattle.octets.specs.declared.Refusal.{Refusal}
+use Rattle.octets.specs.declared.Refusal.TheVariants.{BadLine}
 use Rattle.book.specs.declared.State.{State}
 use Rattle.book.specs.Book.{idle, refusal, done, state_of, settled, refused, moved, replied}
 use Rattle.book.specs.Book as book
 use Rattle.configuration.specs.Configuration.{Configuration}
 use Rattle.bearer.specs.Bearer.{Bearer}
-use Rattle.endpoint.specs.declared.Reply.{Reply}
+use Rattle.endpoint.specs.declared.Done.{Done}
 use Rattle.endpoint.specs.Rule.{Book, Verdict, Event, rule}
 use Rattle.endpoint.specs.Step.{reply_for, out_for}
 use Rattle.trace_read.specs.Events.{line_event}
@@ -45,14 +47,14 @@ pub record Effect : Type 0 where
   pub lent : List ℕ
 
 -- ---- an event, and the verdict on it
--- a line that is no event is refused by 13; w is the length of the event's output buffer
+-- a line that is no event is refused by 13, `BadLine`; w is the length of the event's output buffer
 unfoldable pub verdict_on : Configuration → Book → Option Event → ℕ → Verdict
-verdict_on c k none w = refused 13
+verdict_on c k none w = refused BadLine
 verdict_on c k (some e) w = rule c k (record { event = e; room = w })
 
 -- the octets that a reply writes
 unfoldable pub reply_octets : book.Reply → List ℕ
-reply_octets (refusal n) = []
+reply_octets (refusal e) = []
 reply_octets (done s n o d) = o
 
 -- what only a detailed trace prints: the octets o that were written, and the bearer in force
@@ -60,7 +62,7 @@ abbrev pub detail_if : Bool → List ℕ → Option Bearer → List ℕ
 detail_if detailed o force = cond detailed (detail_text o force) []
 
 -- the line of event n, with its LF; s is the state before the event
-unfoldable pub event_line : Bool → ℕ → Option Event → State → Reply → List ℕ → Option Bearer → List ℕ
+unfoldable pub event_line : Bool → ℕ → Option Event → State → Result Done Refusal → List ℕ → Option Bearer → List ℕ
 event_line detailed n e s r o force = event_text n e s r ++ (detail_if detailed o force ++ (lf ∷ []))
 
 -- what the verdict v on event n does to the book k; the event gets the first w octets of room

@@ -1,19 +1,20 @@
 // The lines that configure the endpoint.
-ghost use Rattle.std.specs.Prelude.{◌≡◌, not};
-ghost use Rattle.std.proofs.Math.Option.{none};
+ghost use Rattle.std.specs.Prelude.{◌≡◌, not, true};
 ghost use Rattle.octets.specs.Chain.{when};
-ghost use Rattle.octets.specs.Append.{Appends};
-ghost use Rattle.configuration.specs.Meaning.{configuration_by};
+ghost use Rattle.octets.specs.Append.{Pushes};
+ghost use Rattle.configuration.specs.Meaning.{configuration_by, config_inside};
 ghost use Rattle.endpoint.specs.Step.{new_endpoint};
 ghost use Rattle.trace_read.specs.Configuring.{general_in, codec_in};
-ghost use Rattle.trace.specs.Trace.{line_of, no_codec, first_effect, line_effect, ending};
-ghost use Rattle.trace.specs.Meaning.{configuration_of, trace_in, Does};
-ghost use Rattle.trace.specs.Private.{Goes, configuring_with};
+ghost use Rattle.trace.specs.Trace.{line_of, configuring, no_codec, first_effect, line_effect, ending};
+ghost use Rattle.trace.specs.Meaning.{Does};
+ghost use Rattle.trace.specs.Private.{Goes, Keeps};
 
-use crate::{Phase, Session, Stepped};
+use crate::Session;
+use crate::events::run;
 use configuration::Config;
 use configuration::codecs::entry_at;
 use endpoint::Endpoint;
+use octets::append::Cursor;
 use trace_read::configure::{is_codec_line, read_codec_line, read_general};
 use trace_write::lines::{push_header, push_refused_line};
 
@@ -22,141 +23,95 @@ use trace_write::lines::{push_header, push_refused_line};
 fn fresh(config: Config) -> Endpoint
     ensures { result ≡ new_endpoint config }
 {
-    let opening = Endpoint::new(config);
-    opening.endpoint
+    Endpoint::new(config).endpoint
 }
 
 // Whether there is a codec entry.
 fn has_codec(config: Config) -> bool
     ensures { result ≡ not (no_codec (configuration_by config)) }
 {
-    let first = entry_at(config, 1);
-    first.known
+    entry_at(config, 1).is_some()
 }
 
-// A session with this configuration so far.
-fn keep(config: Config, at: usize) -> Stepped
-    ensures { result ≡ configuring_with config at }
+// The session after a line that gives this configuration. With none the configuration is refused.
+fn keep(given: Option<Config>, out: &mut Cursor<'_>) -> Session
+    ensures { Keeps given out.old out.new result }
 {
-    Stepped {
-        session: Session {
-            phase: Phase::Configuring,
-            number: 0,
-            endpoint: fresh(config),
-        },
-        at,
+    match given {
+        Some(config) => Session::Configuring(config),
+        None => {
+            push_refused_line(out);
+            Session::Stopped
+        }
     }
 }
 
-impl Session {
-    // Refuses the configuration.
-    fn refuse(self, out: &mut [u8], at: usize) -> Stepped
-        ensures { Goes self.endpoint none out.old out.new at result }
-    {
-        let k = push_refused_line(out, at);
-        let endpoint = self.endpoint;
-        Stepped {
-            session: Session {
-                phase: Phase::Stopped,
-                number: 0,
-                endpoint,
-            },
-            at: k,
-        }
+// The first line, which must be the `G` line.
+pub(crate) fn open(line: &[u8], whole: bool, out: &mut Cursor<'_>) -> Session
+    ensures { Goes true (when whole (general_in line.now)) out.old out.new result }
+{
+    if whole {
+        return keep(read_general(line), out);
     }
+    keep(None, out)
+}
 
-    // The first line, which must be the `G` line.
-    pub(crate) fn open(self, line: &[u8], whole: bool, out: &mut [u8], at: usize) -> Stepped
-        ensures { Goes self.endpoint (when whole (general_in line.now)) out.old out.new at result }
-    {
-        if whole {
-            let read = read_general(line);
-            let right = read.right;
-            let config = read.config;
-            if right {
-                return keep(config, at);
-            }
-            return self.refuse(out, at);
-        }
-        self.refuse(out, at)
+// A `K` line.
+fn add(config: Config, line: &[u8], whole: bool, out: &mut Cursor<'_>) -> Session
+    ensures { Goes (config_inside config) (when whole (codec_in (configuration_by config) line.now)) out.old out.new result }
+{
+    if whole {
+        return keep(read_codec_line(config, line), out);
     }
+    keep(None, out)
+}
 
-    // A `K` line.
-    fn add(self, line: &[u8], whole: bool, out: &mut [u8], at: usize) -> Stepped
-        ensures { Goes self.endpoint (when whole (codec_in (configuration_of self) line.now))
-            out.old out.new at result }
-    {
-        if whole {
-            let endpoint = self.endpoint;
-            let before = endpoint.config;
-            let read = read_codec_line(before, line);
-            let right = read.right;
-            let config = read.config;
-            if right {
-                return keep(config, at);
-            }
-            return self.refuse(out, at);
-        }
-        self.refuse(out, at)
+// The first event, which is given to a fresh endpoint.
+fn begin(
+    config: Config,
+    detailed: bool,
+    line: &[u8],
+    whole: bool,
+    room: &mut [u8],
+    out: &mut Cursor<'_>,
+) -> Session
+    ensures { Does (config_inside config)
+        (first_effect detailed (configuration_by config) (line_of line.now whole) room.old)
+        room.new out.old out.new result }
+{
+    push_header(out);
+    run(fresh(config), 0, detailed, line, whole, room, out)
+}
+
+// A line after the `G` line: a `K` line, or the first event.
+pub(crate) fn configure(
+    config: Config,
+    detailed: bool,
+    line: &[u8],
+    whole: bool,
+    room: &mut [u8],
+    out: &mut Cursor<'_>,
+) -> Session
+    ensures { Does (config_inside config)
+        (line_effect detailed (configuring (configuration_by config)) (line_of line.now whole) room.old)
+        room.new out.old out.new result }
+{
+    if is_codec_line(line) {
+        return add(config, line, whole, out);
     }
-
-    // The first event, which is given to a fresh endpoint.
-    fn begin(
-        self,
-        detailed: bool,
-        line: &[u8],
-        whole: bool,
-        room: &mut [u8],
-        out: &mut [u8],
-        at: usize,
-    ) -> Stepped
-        ensures { Does self.endpoint
-            (first_effect detailed (configuration_of self) (line_of line.now whole) room.old)
-            room.new out.old out.new at result }
-    {
-        let before = self.endpoint;
-        let config = before.config;
-        let session = Session {
-            phase: Phase::Running,
-            number: 0,
-            endpoint: fresh(config),
-        };
-        let k = push_header(out, at);
-        session.run(detailed, line, whole, room, out, k)
+    if has_codec(config) {
+        return begin(config, detailed, line, whole, room, out);
     }
+    keep(None, out)
+}
 
-    // A line after the `G` line: a `K` line, or the first event.
-    pub(crate) fn configure(
-        self,
-        detailed: bool,
-        line: &[u8],
-        whole: bool,
-        room: &mut [u8],
-        out: &mut [u8],
-        at: usize,
-    ) -> Stepped
-        ensures { Does self.endpoint
-            (line_effect detailed (trace_in Phase.Configuring self) (line_of line.now whole) room.old)
-            room.new out.old out.new at result }
-    {
-        if is_codec_line(line) {
-            return self.add(line, whole, out, at);
-        }
-        let endpoint = self.endpoint;
-        if has_codec(endpoint.config) {
-            return self.begin(detailed, line, whole, room, out, at);
-        }
-        self.refuse(out, at)
-    }
-
-    // Appends what is printed for a configuration that no event follows.
-    pub(crate) fn close(self, out: &mut [u8], at: usize) -> usize
-        ensures { Appends out.old at (ending (trace_in Phase.Configuring self)) result out.new }
-    {
-        let endpoint = self.endpoint;
-        if has_codec(endpoint.config) {
-            return push_header(out, at);
-        }
-        push_refused_line(out, at)
+// Appends what is printed for a configuration that no event follows.
+pub(crate) fn close(config: Config, out: &mut Cursor<'_>)
+    ensures { Pushes out.old out.new (ending (configuring (configuration_by config))) }
+{
+    if has_codec(config) {
+        push_header(out);
+    } else {
+        push_refused_line(out);
     }
 }

@@ -3,22 +3,22 @@ ghost use Rattle.std.specs.Prelude.{◌≡◌, [], ◌∷◌, ◌++◌, ◌≤�
 ghost use Rattle.std.proofs.Math.Option.{some};
 ghost use Rattle.octets.specs.Chain.{when};
 ghost use Rattle.octets.specs.Text.{lf};
-ghost use Rattle.octets.specs.Append.{Appends};
-ghost use Rattle.book.specs.States.{holds_at};
-ghost use Rattle.bearer.specs.Meaning.{bearer_by, bearer_if};
-ghost use Rattle.endpoint.specs.Step.{event_by};
+ghost use Rattle.octets.specs.Append.{Pushes};
+ghost use Rattle.book.specs.Book.{settled};
+ghost use Rattle.configuration.specs.Meaning.{configuration_by, config_inside};
+ghost use Rattle.endpoint.specs.Step.{book_of, event_by};
 ghost use Rattle.trace_read.specs.Words.{most_line};
 ghost use Rattle.trace_read.specs.Events.{line_event, message_by};
-ghost use Rattle.trace.specs.Trace.{line_of, detail_if, next_number, line_effect};
-ghost use Rattle.trace.specs.Meaning.{trace_in, Does};
-ghost use Rattle.trace.specs.Private.{effect_on, Passes, DidFront, ready_by, written_by, force_by, answer_line};
+ghost use Rattle.trace.specs.Trace.{line_of, detail_if, next_number, event_effect};
+ghost use Rattle.trace.specs.Meaning.{Does};
+ghost use Rattle.trace.specs.Private.{effect_on, Passes, DidFront, ready_by, written_by, answer_line};
 
-use crate::{Phase, Session, Stepped};
-use bearer::Bearer;
-use book::{State, holds};
-use endpoint::{Answer, Endpoint, Event, Reply};
-use notation::{read_octets, smaller};
-use octets::append::push_octet;
+use crate::Session;
+use book::State;
+use endpoint::{Answer, Done, Endpoint, Event};
+use notation::read_octets;
+use octets::Refusal;
+use octets::append::Cursor;
 use octets::spans::{after, up_to};
 use trace_read::events::read_event;
 use trace_read::lend::lend;
@@ -29,26 +29,21 @@ use trace_write::lines::{push_bad, push_event};
 // Room for the octets of the longest message that a line can hold.
 const MOST_MESSAGE: usize = MOST_LINE / 2;
 
-// What a line asks of the endpoint, with a message's digits read.
+// An event, with a message's digits read: its octets, `len` of them, are at the front of a buffer.
 #[derive(Clone, Copy)]
-enum Ready {
-    // An event. The octets of a message, `len` of them, are at the front of a buffer.
-    Event { event: Event, len: usize },
-    Nothing,
+struct Ready {
+    event: Event,
+    len: usize,
 }
 
 // How many octets a reply says were written.
-fn written_by(reply: Reply) -> usize
+#[tactic(auto, unfolding(crate::specs::Private::written_by))]
+fn written_by(reply: Result<Done, Refusal>) -> usize
     ensures { result ≡ written_by reply }
 {
     match reply {
-        Reply::Refused(_) => 0,
-        Reply::Done {
-            state: _,
-            notice: _,
-            written,
-            dropped: _,
-        } => written,
+        Ok(done) => done.written,
+        Err(_) => 0,
     }
 }
 
@@ -61,41 +56,32 @@ fn give(endpoint: Endpoint, event: Event, m: &[u8], room: &mut [u8], w: usize) -
 }
 
 // Appends the octets written and the bearer in force, if the trace is detailed.
-fn push_more(detailed: bool, s: &[u8], state: State, b: Bearer, out: &mut [u8], at: usize) -> usize
-    ensures { Appends out.old at
-        (detail_if detailed s.now (bearer_if (holds_at state) (bearer_by b))) result out.new }
+fn push_more(detailed: bool, s: &[u8], endpoint: &Endpoint, out: &mut Cursor<'_>)
+    ensures { Pushes out.old out.new (detail_if detailed s.now (settled (book_of endpoint.now))) }
 {
     if detailed {
-        return push_detail(s, holds(state), b, out, at);
+        push_detail(s, endpoint.in_force(), out);
     }
-    at
 }
 
 // Appends what a detailed trace adds, and the LF.
-fn push_end(detailed: bool, s: &[u8], endpoint: Endpoint, out: &mut [u8], at: usize) -> usize
-    ensures { Appends out.old at
-        (detail_if detailed s.now (force_by endpoint) ++ (lf ∷ [])) result out.new }
+fn push_end(detailed: bool, s: &[u8], endpoint: &Endpoint, out: &mut Cursor<'_>)
+    ensures { Pushes out.old out.new
+        (detail_if detailed s.now (settled (book_of endpoint.now)) ++ (lf ∷ [])) }
 {
-    let state = endpoint.state;
-    let b = endpoint.bearer;
-    let k = push_more(detailed, s, state, b, out, at);
-    push_octet(b'\n', out, k)
+    push_more(detailed, s, endpoint, out);
+    out.push_octet(b'\n');
 }
 
 // A line that is no event; its number is n.
-fn pass(endpoint: Endpoint, n: u64, detailed: bool, out: &mut [u8], at: usize) -> Stepped
-    ensures { Passes detailed endpoint n out.old out.new at result }
+fn pass(endpoint: Endpoint, n: u64, detailed: bool, out: &mut Cursor<'_>) -> Session
+    ensures { Passes detailed endpoint n out.old out.new result }
 {
-    let state = endpoint.state;
-    let k = push_bad(n, state, out, at);
-    let k2 = push_end(detailed, b"", endpoint, out, k);
-    Stepped {
-        session: Session {
-            phase: Phase::Running,
-            number: n,
-            endpoint,
-        },
-        at: k2,
+    push_bad(n, endpoint.state, out);
+    push_end(detailed, b"", &endpoint, out);
+    Session::Running {
+        endpoint,
+        number: n,
     }
 }
 
@@ -104,18 +90,16 @@ fn push_answer(
     n: u64,
     event: Event,
     state: State,
-    answer: Answer,
+    answer: &Answer,
     detailed: bool,
     room: &[u8],
-    out: &mut [u8],
-    at: usize,
-) -> usize
-    ensures { Appends out.old at (answer_line detailed n event state answer room.now) result out.new }
+    out: &mut Cursor<'_>,
+)
+    ensures { Pushes out.old out.new (answer_line detailed n event state answer.now room.now) }
 {
-    let reply = answer.reply;
-    let endpoint = answer.endpoint;
-    let k = push_event(n, event, state, reply, out, at);
-    push_end(detailed, up_to(room, written_by(reply)), endpoint, out, k)
+    push_event(n, event, state, answer.reply, out);
+    let written = up_to(room, written_by(answer.reply));
+    push_end(detailed, written, &answer.endpoint, out);
 }
 
 // Event n, with as many octets of room as are wanted, or all of them.
@@ -127,93 +111,79 @@ fn handle(
     m: &[u8],
     room: &mut [u8],
     wanted: usize,
-    out: &mut [u8],
-    at: usize,
-) -> Stepped
-    ensures { Does endpoint
+    out: &mut Cursor<'_>,
+) -> Session
+    ensures { Does (config_inside endpoint.config)
         (effect_on detailed endpoint n (some (event_by event m.now)) room.old wanted)
-        room.new out.old out.new at result }
+        room.new out.old out.new result }
 {
     let state = endpoint.state;
-    let w = smaller(wanted, room.len());
+    let w = wanted.min(room.len());
     let answer = give(endpoint, event, m, room, w);
-    let k = push_answer(n, event, state, answer, detailed, room, out, at);
-    let left = answer.endpoint;
-    Stepped {
-        session: Session {
-            phase: Phase::Running,
-            number: n,
-            endpoint: left,
-        },
-        at: k,
+    push_answer(n, event, state, &answer, detailed, room, out);
+    Session::Running {
+        endpoint: answer.endpoint,
+        number: n,
     }
 }
 
 // The event of a message, if t is its digits. Its octets are then at the front of `octets`.
-fn read_message(t: &[u8], octets: &mut [u8]) -> Ready
+fn read_message(t: &[u8], octets: &mut [u8]) -> Option<Ready>
     requires { length t.now / 2 ≤ length octets.old }
     ensures { ready_by octets.new result ≡ message_by t.now }
 {
-    if read_octets(t, octets) {
-        return Ready::Event {
-            event: Event::Message,
-            len: t.len() / 2,
-        };
-    }
-    Ready::Nothing
+    let ready = Ready {
+        event: Event::Message,
+        len: t.len() / 2,
+    };
+    read_octets(t, octets).then_some(ready)
 }
 
 // The event of the line s, without the prefix that names the length of a buffer. The octets of a message are then at the front
 // of `octets`.
-fn read_line(s: &[u8], whole: bool, octets: &mut [u8]) -> Ready
+fn read_line(s: &[u8], whole: bool, octets: &mut [u8]) -> Option<Ready>
     requires { most_line / 2 ≤ length octets.old }
     ensures { ready_by octets.new result ≡ when whole (line_event s.now) }
 {
-    if whole {
-        let x = read_event(s);
-        return match x {
-            Asked::Event(event) => Ready::Event { event, len: 0 },
-            Asked::Digits => read_message(after(s, 2), octets),
-            Asked::Nothing => Ready::Nothing,
-        };
+    if !whole {
+        return None;
     }
-    Ready::Nothing
+    let asked = read_event(s)?;
+    match asked {
+        Asked::Event(event) => Some(Ready { event, len: 0 }),
+        Asked::Digits => read_message(after(s, 2), octets),
+    }
 }
 
 // The number after n. Line numbers saturate at 2^64 - 1.
 fn next_number(n: u64) -> u64
     ensures { result ≡ next_number n }
 {
-    if n < u64::MAX {
-        return n + 1;
-    }
-    n
+    n.saturating_add(1)
 }
 
-impl Session {
-    // A line after the configuration.
-    pub(crate) fn run(
-        self,
-        detailed: bool,
-        line: &[u8],
-        whole: bool,
-        room: &mut [u8],
-        out: &mut [u8],
-        at: usize,
-    ) -> Stepped
-        ensures { Does self.endpoint
-            (line_effect detailed (trace_in Phase.Running self) (line_of line.now whole) room.old)
-            room.new out.old out.new at result }
-    {
-        let lent = lend(detailed, line);
-        let n = next_number(self.number);
-        let mut octets = [0u8; MOST_MESSAGE];
-        let Ready::Event { event, len } = read_line(after(line, lent.at), whole, &mut octets) else {
-            let endpoint = self.endpoint;
-            return pass(endpoint, n, detailed, out, at);
-        };
-        let m = up_to(&octets, len);
-        let endpoint = self.endpoint;
-        handle(endpoint, n, detailed, event, m, room, lent.room, out, at)
+// A line after the configuration; `number` is that of the last event.
+pub(crate) fn run(
+    endpoint: Endpoint,
+    number: u64,
+    detailed: bool,
+    line: &[u8],
+    whole: bool,
+    room: &mut [u8],
+    out: &mut Cursor<'_>,
+) -> Session
+    ensures { Does (config_inside endpoint.config)
+        (event_effect detailed (configuration_by endpoint.config) (book_of endpoint) number (line_of line.now whole) room.old)
+        room.new out.old out.new result }
+{
+    let lent = lend(detailed, line);
+    let n = next_number(number);
+    let mut octets = [0u8; MOST_MESSAGE];
+    match read_line(after(line, lent.at), whole, &mut octets) {
+        Some(ready) => {
+            let m = up_to(&octets, ready.len);
+            handle(endpoint, n, detailed, ready.event, m, room, lent.room, out)
+        }
+        None => pass(endpoint, n, detailed, out),
     }
 }

@@ -4,39 +4,28 @@
 mod configuring;
 mod events;
 
-ghost use Rattle.octets.specs.Append.{Appends};
+ghost use Rattle.octets.specs.Append.{Pushes};
 ghost use Rattle.trace.specs.Trace.{line_of, line_effect, ending};
-ghost use Rattle.trace.specs.Meaning.{trace_by, Begins, Does};
+ghost use Rattle.trace.specs.Meaning.{trace_by, inside_by, Begins, Does};
 
+use crate::configuring::{close, configure, open};
+use crate::events::run;
+use configuration::Config;
 use endpoint::Endpoint;
-use trace_read::configure::read_general;
+use octets::append::Cursor;
 use trace_write::lines::push_refused_line;
 
-// How far a trace has come.
+// What the lines so far have left.
 #[derive(Clone, Copy)]
-pub enum Phase {
+pub enum Session {
     // No line has come.
     Start,
-    // The endpoint's configuration has those codecs that have come.
-    Configuring,
-    Running,
+    // The endpoint's configuration, with those codecs that have come.
+    Configuring(Config),
+    // The endpoint, and the number of its last event.
+    Running { endpoint: Endpoint, number: u64 },
     // The configuration was refused, and nothing more is printed.
     Stopped,
-}
-
-// What the lines so far have left: the endpoint, and the number of its last event.
-#[derive(Clone, Copy)]
-pub struct Session {
-    pub phase: Phase,
-    pub number: u64,
-    pub endpoint: Endpoint,
-}
-
-// A session after a line, and where the next octet of output goes.
-#[derive(Clone, Copy)]
-pub struct Stepped {
-    pub session: Session,
-    pub at: usize,
 }
 
 impl Session {
@@ -44,17 +33,10 @@ impl Session {
     pub fn new() -> Session
         ensures { Begins result }
     {
-        let read = read_general(b"");
-        let opening = Endpoint::new(read.config);
-        let endpoint = opening.endpoint;
-        Session {
-            phase: Phase::Start,
-            number: 0,
-            endpoint,
-        }
+        Session::Start
     }
 
-    // Appends what the line prints to the `at` octets in out. The line is without its LF; `whole` says whether an LF ended it and all
+    // Appends what the line prints, and gives what it leaves. The line is without its LF; `whole` says whether an LF ended it and all
     // of it is there. The line's event gets as many octets of room as the line asks for.
     pub fn step(
         self,
@@ -62,32 +44,31 @@ impl Session {
         line: &[u8],
         whole: bool,
         room: &mut [u8],
-        out: &mut [u8],
-        at: usize,
-    ) -> Stepped
-        ensures { Does self.endpoint
+        out: &mut Cursor<'_>,
+    ) -> Session
+        ensures { Does (inside_by self)
             (line_effect detailed (trace_by self) (line_of line.now whole) room.old)
-            room.new out.old out.new at result }
+            room.new out.old out.new result }
     {
-        let phase = self.phase;
-        match phase {
-            Phase::Start => self.open(line, whole, out, at),
-            Phase::Configuring => self.configure(detailed, line, whole, room, out, at),
-            Phase::Running => self.run(detailed, line, whole, room, out, at),
-            Phase::Stopped => Stepped { session: self, at },
+        match self {
+            Session::Start => open(line, whole, out),
+            Session::Configuring(config) => configure(config, detailed, line, whole, room, out),
+            Session::Running { endpoint, number } => {
+                run(endpoint, number, detailed, line, whole, room, out)
+            }
+            Session::Stopped => Session::Stopped,
         }
     }
 
     // Appends what is printed at the end of the input.
-    pub fn finish(self, out: &mut [u8], at: usize) -> usize
-        ensures { Appends out.old at (ending (trace_by self)) result out.new }
+    pub fn finish(self, out: &mut Cursor<'_>)
+        ensures { Pushes out.old out.new (ending (trace_by self)) }
     {
-        let phase = self.phase;
-        match phase {
-            Phase::Start => push_refused_line(out, at),
-            Phase::Configuring => self.close(out, at),
-            Phase::Running => at,
-            Phase::Stopped => at,
+        match self {
+            Session::Start => push_refused_line(out),
+            Session::Configuring(config) => close(config, out),
+            Session::Running { .. } => {}
+            Session::Stopped => {}
         }
     }
 }

@@ -1,4 +1,4 @@
--- `configuring::has_codec` meets its contract. There is a codec if there is a first entry.
+-- `configuring::has_codec` meets its contract. The first entry is there if any is.
 -- Assumes nothing.
 use borrow.Author.Rules.{rules}
 use Rattle.trace.proofs.ConfiguringLaws.{codec_known}

@@ -1,4 +1,4 @@
--- `events::give` meets its contract. The part that is lent is the front of the buffer.
+-- `events::give` meets its contract. The part of the buffer that is lent is its front.
 -- Assumes nothing.
 use borrow.Author.Rules.{rules}
 use Rattle.trace.proofs.EventLaws.{gave_front}

@@ -1,4 +1,4 @@
--- `events::handle` meets its contract. What the endpoint did is what the definition prints.
+-- `events::handle` meets its contract. What the endpoint promises of the event is what the line prints.
 -- Assumes nothing.
 use borrow.Author.Rules.{rules}
 use Rattle.trace.proofs.EventLaws.{handled_is}

@@ -1,11 +1,8 @@
--- `events::next_number` meets its contract. The code makes the definition's tests.
+-- `events::next_number` meets its contract. The sum saturates where the numbers do.
 -- Assumes nothing.
 use borrow.Author.Rules.{rules}
-use Rattle.trace.proofs.EventLaws.{numbers}
+use Rattle.trace.proofs.EventLaws.{number_is}
 use Rattle.trace.proofs.events.next_number.Goals as goal
 
-pub returns-then-n-lt18446744073709551615 : goal.returns-then-n-lt18446744073709551615
-returns-then-n-lt18446744073709551615 c = search (numbers, rules)
-
 pub returns : goal.returns
-returns c = search (numbers, rules)
+returns c = search (number_is, rules)

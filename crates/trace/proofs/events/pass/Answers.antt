@@ -1,8 +1,7 @@
--- `events::pass` meets its contract. A line that is no event is refused with 13, and changes nothing.
+-- `events::pass` meets its contract. The endpoint stays as it was.
 -- Assumes nothing.
-use borrow.Author.Rules.{rules}
 use Rattle.trace.proofs.EventLaws.{passed_is}
 use Rattle.trace.proofs.events.pass.Goals as goal
 
 pub returns : goal.returns
-returns c = search (passed_is, rules)
+returns c = passed_is _ _ _ _ _ _ c.push_end.ensures c.push_bad.ensures

@@ -1,8 +1,7 @@
--- `events::push_answer` meets its contract. The end of the line is appended after its beginning.
+-- `events::push_answer` meets its contract. The detail follows the line of the event.
 -- Assumes nothing.
-use borrow.Author.Rules.{rules}
 use Rattle.trace.proofs.EventLaws.{answer_line_lem}
 use Rattle.trace.proofs.events.push_answer.Goals as goal
 
 pub returns : goal.returns
-returns c = search (answer_line_lem, rules)
+returns c = answer_line_lem c.args.event c.args.state c.args.answer.now c.args.room.now _ _ _ _ c.args.n _ c.args.detailed c.push_end.ensures c.push_event.ensures c.up_to-written.ensures c.written_by.ensures

@@ -1,8 +1,7 @@
--- `events::push_end` meets its contract. The LF is appended after the detail.
+-- `events::push_end` meets its contract. The LF follows the detail.
 -- Assumes nothing.
-use borrow.Author.Rules.{rules}
-use Rattle.octets.proofs.AppendLaws.{append_then}
+use Rattle.trace_write.proofs.PushLaws.{pushes_then}
 use Rattle.trace.proofs.events.push_end.Goals as goal
 
 pub returns : goal.returns
-returns c = search (append_then, rules)
+returns c = pushes_then c.push_more.ensures c.push_octet.ensures
