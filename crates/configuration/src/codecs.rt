@@ -1,12 +1,12 @@
 // The codec entries of a configuration.
 ghost use Rattle.std.specs.Prelude.{◌≡◌, take};
 ghost use Rattle.std.specs.List.{list_any};
-ghost use Rattle.octets.specs.Append.{Appends};
+ghost use Rattle.octets.specs.Append.{Pushes};
 ghost use Rattle.configuration.specs.Configuration.{suits, name_of, names, named_in};
 ghost use Rattle.configuration.specs.Meaning.{codec_by, codecs_by, blank_codec, FoundAt};
 
 use crate::{Codec, Config, Format, MOST_CODECS, MOST_NAME};
-use octets::append::push;
+use octets::append::Cursor;
 use octets::spans::up_to;
 use octets::words::equals;
 
@@ -22,14 +22,12 @@ pub fn suits_entry(k: Codec, payload: u16) -> bool
 }
 
 // Appends the text of the rtpmap line that goes with the entry.
-pub fn push_name(k: Codec, out: &mut [u8], at: usize) -> usize
-    ensures { Appends out.old at (name_of (codec_by k)) result out.new }
+pub fn push_name(k: Codec, out: &mut Cursor<'_>)
+    ensures { Pushes out.old out.new (name_of (codec_by k)) }
 {
-    let format = k.format;
-    let name = k.name;
-    match format {
-        Format::Payload(_) => at,
-        Format::Named(n) => push(up_to(&name, n), out, at),
+    match k.format {
+        Format::Payload(_) => {}
+        Format::Named(n) => out.push(up_to(&k.name, n)),
     }
 }
 

@@ -4,7 +4,7 @@
 use Prim.Native.Nat.{ℕ, ◌+◌, ◌-◌, ◌<◌, ◌≤◌}
 use mir.Syntax.{w8}
 use mir.Val.{Fits}
-use mathlib.Core.Path.{◌≡◌, refl, sym, ◌∙◌}
+use mathlib.Core.Path.{◌≡◌, refl, sym, ◌∙◌, ap}
 use mathlib.Core.List.{List, ◌++◌}
 use mathlib.Core.Bool.{true, false, ◌&&◌, and-eq-true_iff}
 use mathlib.Core.Option.{some, Option-elim}
@@ -62,8 +62,9 @@ module _ (k : Place) (array : length k.name ≡ most_name) where
   short_name : length (name_of (codec_by k)) ≤ most_name
   short_name = omega (arith, name_short k.format k.name)
 
-  pub offer_is : (port payload ptime a r : ℕ) (g f : List ℕ) (s : Places) → s ≡ bare_places (record { at = 0; len = 5 }) port (record { at = 5; len = 7 }) payload
-      → Appends (replicate most_offered 0) 0 (audio ++ rtp_avp) a g → Appends g a (name_of (codec_by k)) r f
+  -- the words and the name were pushed into z, and h is what it then is
+  pub offer_is : (port payload ptime a r o : ℕ) (z g f h : List ℕ) (s : Places) → s ≡ bare_places (record { at = 0; len = 5 }) port (record { at = 5; len = 7 }) payload
+      → z ≡ replicate most_offered 0 → o ≡ 0 → Appends z o (audio ++ rtp_avp) a g → Appends g a (name_of (codec_by k)) r f → h ≡ f
       → Offers port (codec_by k) payload ptime (record {
         stream = record {
           media = s.media;
@@ -74,19 +75,19 @@ module _ (k : Place) (array : length k.name ≡ most_name) where
           fmtp = s.fmtp;
           ptime = ptime;
         };
-        text = f;
+        text = h;
       })
   unfolding request_by stream_by stream_inside texts_by spans_of all_in text_of offered
-  offer_is port payload ptime a r g f s bare p q =
-      let z : List ℕ = replicate most_offered 0 in
+  offer_is port payload ptime a r o z g f h s bare zeros start p q same =
       let t : List ℕ = name_of (codec_by k) in
-      let room : length z ≡ most_offered = length-replicate {A = ℕ} most_offered 0 in
-      let n = name_length z g f t a r room short_name p q in
-      let (w, e) = text_whole z g f t a r room short_name p q in
-      let l = length_whole z g f t a r room short_name p q in
+      let room : length z ≡ most_offered = ap length zeros ∙ length-replicate {A = ℕ} most_offered 0 in
+      let p' : Appends z 0 (audio ++ rtp_avp) a g = rw start at p in
+      let n = name_length z g f t a r room short_name p' q in
+      let (w, e) = text_whole z g f t a r room short_name p' q in
+      let l = length_whole z g f t a r room short_name p' q in
       record {
-        is = λ c i. rw (bare, e, n, i, take_at t w (length t) refl);
-        inside = rw (bare, le-leb (0 + 5) (length f) (omega arith), le-leb (5 + 7) (length f) (omega arith), le-leb (12 + (r - a)) (length f) (omega (arith, short_name)));
+        is = λ c i. rw (bare, same, e, n, i, take_at t w (length t) refl);
+        inside = rw (bare, same, le-leb (0 + 5) (length f) (omega arith), le-leb (5 + 7) (length f) (omega arith), le-leb (12 + (r - a)) (length f) (omega (arith, short_name)));
       }
 
 -- ---- a payload that suits the entry k

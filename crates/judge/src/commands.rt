@@ -10,15 +10,18 @@ use configuration::codecs::{entry_at, push_name, suits_entry};
 use configuration::{Codec, Config, Format, none_or_in_range};
 use media::Stream;
 use octets::Span;
-use octets::append::push;
+use octets::append::Cursor;
 
 // The Request for the entry k: "audio", "RTP/AVP" and the name follow each other in its text.
 fn offer(port: u16, k: Codec, payload: u8, ptime: u8) -> Request
     ensures { Offers port (codec_by k) payload ptime result }
 {
     let mut text = [0u8; MOST_OFFERED];
-    let at = push(b"audioRTP/AVP", &mut text, 0);
-    let end = push_name(k, &mut text, at);
+    let mut written = Cursor::new(&mut text);
+    written.push(b"audioRTP/AVP");
+    let at = written.at;
+    push_name(k, &mut written);
+    let end = written.at;
     let audio = Span { at: 0, len: 5 };
     let rtp_avp = Span { at: 5, len: 7 };
     let name = Span {

@@ -5,7 +5,7 @@ use Rattle.configuration.proofs.FormatLaws.{formats}
 use Rattle.configuration.proofs.codecs.push_name.Goals as goal
 
 pub returns-in-Payload : goal.returns-in-Payload
-returns-in-Payload c = search (formats, rules)
+returns-in-Payload c = record { lent = search rules; appends = search (formats, rules) }
 
 pub returns-in-Named : goal.returns-in-Named
-returns-in-Named c = search (formats, rules)
+returns-in-Named c = record { lent = search rules; appends = search (formats, rules) }
