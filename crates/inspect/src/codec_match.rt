@@ -6,23 +6,15 @@ use octets::{parts, spans};
 
 // Whether the word names the own list as the leading one, if it names a list.
 fn own_leads(word: &[u8]) -> Option<bool> {
-    if word == b"offered" {
-        return Some(false);
+    match word {
+        b"offered" => Some(false),
+        b"own" => Some(true),
+        _ => None,
     }
-    if word == b"own" {
-        return Some(true);
-    }
-    None
 }
 
 // Appends the answer to two strings: a refusal, or the place of the chosen codec in the leading one and the reduced list.
-fn push_match(
-    offered: &[u8],
-    own: &[u8],
-    own_leads: bool,
-    room: &mut [u8],
-    out: &mut Cursor<'_>,
-) {
+fn push_match(offered: &[u8], own: &[u8], own_leads: bool, room: &mut [u8], out: &mut Cursor<'_>) {
     let m = bat_match::match_lists(offered, own, own_leads, room);
     match m.choice {
         Err(e) => push_refused(e, out),
@@ -39,7 +31,8 @@ pub(crate) fn push_answer(
     line: &[u8],
     data: &mut [u8],
     room: &mut [u8],
-    out: &mut Cursor<'_>) -> Option<()> {
+    out: &mut Cursor<'_>,
+) -> Option<()> {
     if parts::separators(line, b' ') != 4 {
         return None;
     }

@@ -49,12 +49,7 @@ fn push_front(f: Frame, start: usize, out: &mut Cursor<'_>) {
 }
 
 // Appends the finding on the element f at the front of s.
-fn push_finding(
-    s: &[u8],
-    f: Frame,
-    finding: Result<Value, Judged>,
-    out: &mut Cursor<'_>,
-) {
+fn push_finding(s: &[u8], f: Frame, finding: Result<Value, Judged>, out: &mut Cursor<'_>) {
     match finding {
         Ok(value) => values::push_value(framing::contents(s, f), value, out),
         Err(j) => push_judged(j, out),

@@ -68,12 +68,7 @@ fn push_attributes(m: &[u8], s: Stream, out: &mut Cursor<'_>) {
 }
 
 // Appends what a Request or Accepted of version 1 says.
-fn push_described(
-    m: &[u8],
-    kind: MessageType,
-    d: Description,
-    out: &mut Cursor<'_>,
-) {
+fn push_described(m: &[u8], kind: MessageType, d: Description, out: &mut Cursor<'_>) {
     push_head(1, kind, out);
     push_address(d.address, out);
     push_media(m, d.stream, out);

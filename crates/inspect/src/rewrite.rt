@@ -18,12 +18,7 @@ fn rewritten(
     if 255 < compatibility {
         return Some(Err(Refusal::OutOfRange));
     }
-    Some(bat_write::write_element(
-        value,
-        contents,
-        compatibility as u8,
-        room,
-    ))
+    Some(bat_write::write_element(value, contents, compatibility as u8, room))
 }
 
 // The one element of data. (Data that is counted has no octets that can't be framed.)
@@ -55,7 +50,8 @@ pub(crate) fn push_answer(
     line: &[u8],
     data: &mut [u8],
     room: &mut [u8],
-    out: &mut Cursor<'_>) -> Option<()> {
+    out: &mut Cursor<'_>,
+) -> Option<()> {
     if parts::separators(line, b' ') != 3 {
         return None;
     }

@@ -20,7 +20,8 @@ pub(crate) fn push_answer(
     line: &[u8],
     data: &mut [u8],
     room: &mut [u8],
-    out: &mut Cursor<'_>) -> Option<()> {
+    out: &mut Cursor<'_>,
+) -> Option<()> {
     if parts::separators(line, b' ') != 2 {
         return None;
     }

@@ -77,11 +77,7 @@ fn push_unit(s: &[u8], network: Span, local: Span, out: &mut Cursor<'_>) {
 }
 
 // Appends a signal: its type, and its duration if it has one.
-fn push_signal(
-    kind: InnerType,
-    duration: Option<InnerDuration>,
-    out: &mut Cursor<'_>,
-) {
+fn push_signal(kind: InnerType, duration: Option<InnerDuration>, out: &mut Cursor<'_>) {
     push_named(b"signal=", kind.kind as u64, out);
     match duration {
         None => {}

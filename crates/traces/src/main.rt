@@ -96,27 +96,24 @@ fn run_word<F: Files, W: Write, E: Write>(
     manner: Manner,
     buffers: &mut Buffers<'_>,
 ) -> Manner {
-    let word = up_to(buffers.line, n);
-    if word == b"plain" {
-        return Manner {
+    match up_to(buffers.line, n) {
+        b"plain" => Manner {
             detailed: false,
             ..manner
-        };
-    }
-    if word == b"detailed" {
-        return Manner {
+        },
+        b"detailed" => Manner {
             detailed: true,
             ..manner
-        };
-    }
-    if word == b"octets" {
-        return Manner {
+        },
+        b"octets" => Manner {
             slow: true,
             ..manner
-        };
+        },
+        _ => {
+            run_file(files, to, errors, n, manner, buffers);
+            manner
+        }
     }
-    run_file(files, to, errors, n, manner, buffers);
-    manner
 }
 
 // Puts argument i at the front of word, and answers its length, or none past the last argument. One that is longer than word counts
@@ -162,10 +159,5 @@ fn main(rt: HostRuntime) {
         room: &mut room,
         out: &mut out,
     };
-    run_all(
-        &rt,
-        &mut rt.stdout(),
-        &mut rt.stderr(),
-        &mut buffers,
-    );
+    run_all(&rt, &mut rt.stdout(), &mut rt.stderr(), &mut buffers);
 }

@@ -1,6 +1,6 @@
--- Each turn goes on in the octets.
-use Rattle.std.proofs.Common.{length, ◌-◌}
+-- Each turn leaves fewer octets.
+use Rattle.std.proofs.Common.{length}
 use Rattle.inspect.proofs.values.push_list.Given as goal
 
-abbrev pub decreases-loop-i : goal.decreases-loop-i
-decreases-loop-i l = length l.s - l.i
+abbrev pub decreases-loop-rest : goal.decreases-loop-rest
+decreases-loop-rest l = length l.rest
