@@ -4,6 +4,7 @@ use Prim.Native.Nat.{ℕ, ◌+◌, ◌-◌, ◌≤◌, ◌<◌, min}
 use mathlib.Core.Path.{◌≡◌, refl, sym, ◌∙◌}
 use mathlib.Core.List.{List, [], ◌∷◌, ◌++◌}
 use mathlib.Core.Bool.{Bool, true, false, ◌&&◌, cond, and-eq-true_iff}
+use mathlib.Core.Logic.{◌⊎◌, inl, inr}
 use mathlib.Core.Option.{none, some, map}
 use lib.ListN.{length, take}
 use lib.Seq.{take_all}
@@ -15,7 +16,7 @@ use Rattle.octets.specs.declared.Refusal.{Refusal}
 use Rattle.octets.specs.declared.Refusal.TheVariants.{OutOfRange}
 use Rattle.octets.specs.Append.{next_of, Appends}
 use Rattle.octets.specs.Puts.{bounded, Puts}
-use Rattle.octets.proofs.AppendLaws.{append_then}
+use Rattle.octets.proofs.AppendLaws.{append_nil, append_then}
 use Rattle.octets.proofs.CaseLaws.{by_bool}
 use Rattle.octets.proofs.PutsLaws.{puts_none, scratch_text}
 use Rattle.sdp.specs.Written.{lines_text}
@@ -27,18 +28,23 @@ use Rattle.media.specs.Meaning.{stream_by, stream_inside, stream_in}
 use Rattle.ipbcp.specs.declared.Body.{Body}
 use Rattle.ipbcp.specs.declared.Body.TheVariants as body
 use Rattle.ipbcp.specs.declared.MessageType.{MessageType}
-use Rattle.ipbcp.specs.Writing.{Content, request_content, accepted_content, confused_content, rejected_content, version_text, origin_text, session_text, connection_text, time_text, ipbcp_text, content_type, media_lines, message_lines, message_text, right_media, right_attributes, right_content, message_octets, message_octets_in, most_written}
+use Rattle.ipbcp.specs.Writing.{Content, request_content, accepted_content, confused_content, rejected_content, version_text, origin_text, session_text, connection_text, time_text, ipbcp_text, content_type, media_lines, stream_lines, message_lines, message_text, right_media, right_attributes, right_content, message_octets, message_octets_in, most_written}
 use Rattle.ipbcp.specs.Meaning.{content_in}
 use Rattle.ipbcp_write.specs.Private.{content_by, body_type, writable_stream, writable_body}
 use Rattle.ipbcp_write.proofs.LineLaws.{lines_append}
 
 -- ---- the parts of a message
-pub kind_of : (b c : Body) (k : MessageType) → b ≡ c → k ≡ body_type c → k ≡ body_type b
-kind_of b c k e p = rw e p
+module _ (m : List ℕ) (b : Body) (l : List ℕ) (at : ℕ) where
+  pub body_stream : (s : Places) → (b ≡ body.Request s) ⊎ (b ≡ body.Accepted s) → (r : ℕ) (f : List ℕ) → Appends l at (lines_text (stream_lines (stream_by m s))) r f
+      → Appends l at (lines_text (media_lines (content_by m b))) r f
+  unfolding content_by media_lines
+  body_stream s (inl e) r f p = rw e p
+  body_stream s (inr e) r f p = rw e p
 
-pub body_of : (m : List ℕ) (b c : Body) (l : List ℕ) (at r : ℕ) (f : List ℕ) → b ≡ c → Appends l at (lines_text (media_lines (content_by m c))) r f
-    → Appends l at (lines_text (media_lines (content_by m b))) r f
-body_of m b c l at r f e p = rw e p
+  pub body_none : (b ≡ body.Confused) ⊎ (b ≡ body.Rejected) → Appends l at (lines_text (media_lines (content_by m b))) at l
+  unfolding content_by media_lines lines_text
+  body_none (inl e) = rw e (append_nil l at)
+  body_none (inr e) = rw e (append_nil l at)
 
 kind_is : (m : List ℕ) (b : Body) → body_type b ≡ content_type (content_by m b)
 unfolding body_type content_type content_by

@@ -25,6 +25,7 @@ pub const MOST_WRITTEN: usize = 447;
 const SCRATCH: usize = MOST_WRITTEN + 1;
 
 // The type of a message.
+#[tactic(auto, unfolding(crate::specs::Private::body_type))]
 fn kind_of(body: Body) -> MessageType
     ensures { result ≡ body_type body }
 {
@@ -41,10 +42,8 @@ fn push_body(body: Body, source: &[u8], out: &mut Cursor<'_>)
     ensures { Pushes out.old out.new (lines_text (media_lines (content_by source.now body))) }
 {
     match body {
-        Body::Request(s) => stream::push_stream(s, source, out),
-        Body::Accepted(s) => stream::push_stream(s, source, out),
-        Body::Confused => {}
-        Body::Rejected => {}
+        Body::Request(s) | Body::Accepted(s) => stream::push_stream(s, source, out),
+        Body::Confused | Body::Rejected => {}
     }
 }
 
@@ -80,10 +79,8 @@ pub fn write_message(
 ) -> Result<usize, Refusal>
     ensures { Puts (message_octets_in own (content_in source.now body)) out.old result out.new }
 {
-    if address::is_unicast(own) {
-        if ranges::right_body(body, source) {
-            return write_right(body, own, source, out);
-        }
+    if address::is_unicast(own) && ranges::right_body(body, source) {
+        return write_right(body, own, source, out);
     }
     Err(Refusal::OutOfRange)
 }

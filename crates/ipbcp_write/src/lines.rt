@@ -20,6 +20,7 @@ pub(crate) fn push_end(out: &mut Cursor<'_>)
 }
 
 // IN and the word of the address's family, each with a blank after it.
+#[tactic(auto, unfolding(ipbcp::specs::Writing::family_word))]
 fn host_start(own: Address) -> &'static [u8]
     ensures { result.now ≡ host_start own }
 {
@@ -63,6 +64,7 @@ pub(crate) fn push_opening(own: Address, out: &mut Cursor<'_>)
 }
 
 // The word of a type.
+#[tactic(auto, unfolding(ipbcp::specs::Types::type_word))]
 fn type_word(kind: MessageType) -> &'static [u8]
     ensures { result.now ≡ type_word kind }
 {

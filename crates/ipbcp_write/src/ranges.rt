@@ -15,32 +15,22 @@ use octets::spans::text;
 use sdp::all_plain;
 
 // t is a token: not empty, without a blank, and of octets that may be part of a line.
+#[tactic(auto, using(crate::proofs::RangeLaws::tokens))]
 fn is_token(t: &[u8]) -> bool
     ensures { result ≡ is_token t.now }
 {
-    if t.len() < 1 {
-        return false;
-    }
-    let e = find_from(t, b' ', 0);
-    if e < t.len() {
-        return false;
-    }
-    all_plain(t)
+    !t.is_empty() && t.len() <= find_from(t, b' ', 0) && all_plain(t)
 }
 
 // The fields of the media line are in range.
+#[tactic(auto, using(crate::proofs::RangeLaws::medias))]
 fn right_media(s: Stream, source: &[u8]) -> bool
     ensures { result ≡ right_media (stream_by source.now s) }
 {
-    if is_token(text(source, s.media)) {
-        if s.port < 1 {
-            return false;
-        }
-        if is_token(text(source, s.transport)) {
-            return s.payload <= 127;
-        }
-    }
-    false
+    is_token(text(source, s.media))
+        && 1 <= s.port
+        && is_token(text(source, s.transport))
+        && s.payload <= 127
 }
 
 // The texts at these places may be part of lines.
@@ -56,37 +46,30 @@ fn are_plain(spans: &[Span], source: &[u8]) -> bool
 }
 
 // The fields of the attributes are in range.
+#[tactic(auto, using(crate::proofs::RangeLaws::attributes))]
 fn right_attributes(s: Stream, source: &[u8]) -> bool
     ensures { result ≡ right_attributes (stream_by source.now s) }
 {
-    if all_plain(text(source, s.rtpmap)) {
-        if are_plain(s.fmtp.as_slice(), source) {
-            return attributes_fit(s, source);
-        }
-    }
-    false
+    all_plain(text(source, s.rtpmap))
+        && are_plain(s.fmtp.as_slice(), source)
+        && attributes_fit(s, source)
 }
 
 // The spans of the stream lie inside source, and its fields are in range.
+#[tactic(auto, unfolding(crate::specs::Private::writable_stream))]
 fn right_stream(s: Stream, source: &[u8]) -> bool
     ensures { result ≡ writable_stream source.now s }
 {
-    if stream_inside(s, source) {
-        if right_media(s, source) {
-            return right_attributes(s, source);
-        }
-    }
-    false
+    stream_inside(s, source) && right_media(s, source) && right_attributes(s, source)
 }
 
 // The fields of the message are in range.
+#[tactic(auto, unfolding(crate::specs::Private::writable_body))]
 pub(crate) fn right_body(body: Body, source: &[u8]) -> bool
     ensures { result ≡ writable_body source.now body }
 {
     match body {
-        Body::Request(s) => right_stream(s, source),
-        Body::Accepted(s) => right_stream(s, source),
-        Body::Confused => true,
-        Body::Rejected => true,
+        Body::Request(s) | Body::Accepted(s) => right_stream(s, source),
+        Body::Confused | Body::Rejected => true,
     }
 }

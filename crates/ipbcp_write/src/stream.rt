@@ -60,7 +60,7 @@ fn push_rtpmap(s: Stream, source: &[u8], out: &mut Cursor<'_>)
     ensures { Pushes out.old out.new (lines_text (rtpmap_lines (stream_by source.now s))) }
 {
     let t = text(source, s.rtpmap);
-    if t.len() == 0 {
+    if t.is_empty() {
         return;
     }
     out.push(b"a=rtpmap:");

@@ -1,25 +1,11 @@
--- `push_body` meets its contract: by the four types.
+-- `push_body` meets its contract: a Request and an Accepted have a stream, the others have none.
 -- Assumes nothing.
 use borrow.Author.Rules.{rules}
-use Rattle.ipbcp_write.proofs.WriteLaws.{body_of}
-use Rattle.octets.proofs.AppendLaws.{append_nil}
-use Rattle.sdp.specs.Written.{lines_text}
-use Rattle.ipbcp.specs.Writing.{media_lines}
-use Rattle.ipbcp_write.specs.Private.{content_by}
+use Rattle.ipbcp_write.proofs.WriteLaws.{body_stream, body_none}
 use Rattle.ipbcp_write.proofs.push_body.Goals as goal
 
 pub returns-in-Request : goal.returns-in-Request
-unfolding content_by media_lines lines_text
-returns-in-Request c = record { lent = search rules; appends = search (body_of, append_nil, rules) }
-
-pub returns-in-Accepted : goal.returns-in-Accepted
-unfolding content_by media_lines lines_text
-returns-in-Accepted c = record { lent = search rules; appends = search (body_of, append_nil, rules) }
+returns-in-Request c = record { lent = search rules; appends = body_stream _ _ _ _ _ c.in-Request.is _ _ c.push_stream.ensures.appends }
 
 pub returns-in-Confused : goal.returns-in-Confused
-unfolding content_by media_lines lines_text
-returns-in-Confused c = record { lent = search rules; appends = search (body_of, append_nil, rules) }
-
-pub returns-in-Rejected : goal.returns-in-Rejected
-unfolding content_by media_lines lines_text
-returns-in-Rejected c = record { lent = search rules; appends = search (body_of, append_nil, rules) }
+returns-in-Confused c = record { lent = search rules; appends = body_none _ _ _ _ c.in-Confused.is }
