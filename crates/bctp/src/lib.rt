@@ -36,19 +36,15 @@ pub enum Packet {
 }
 
 // The fixed bits of both indicators are right.
+#[tactic(auto, unfolding(crate::specs::Packet::right_first, crate::specs::Packet::right_second))]
 fn are_right(a: u8, b: u8) -> bool
     ensures { result ≡ (right_first a && right_second b) }
 {
-    if a / 128 != 0 {
-        return false;
-    }
-    if a / 32 % 2 != 1 {
-        return false;
-    }
-    b / 128 == 0
+    a / 128 == 0 && a / 32 % 2 == 1 && b / 128 == 0
 }
 
 // The error bit of an indicator is set.
+#[tactic(auto, unfolding(crate::specs::Packet::has_error))]
 fn has_error(a: u8) -> bool
     ensures { result ≡ has_error a }
 {
@@ -68,29 +64,28 @@ fn put_reply(a: u8, b: u8, out: &mut [u8]) -> Result<Packet, Refusal>
 }
 
 // Opens a packet whose indicators are a and b.
+#[tactic(auto, using(crate::proofs::OpenLaws::opening))]
 fn open_by(a: u8, b: u8, packet: &[u8], out: &mut [u8]) -> Result<Packet, Refusal>
     ensures { Opens packet.now out.old (opened_by a b (drop 2 packet.now)) result out.new }
 {
-    if are_right(a, b) {
-        if has_error(a) {
-            return Ok(Packet::Notice);
-        }
-        if has_error(b) {
-            return Ok(Packet::Notice);
-        }
-        let protocol = b % 64;
-        if a % 32 != 0 {
-            return put_reply(VERSION_ERROR, protocol, out);
-        }
-        if protocol != IPBCP {
-            return put_reply(VERSION_1, ERROR + protocol, out);
-        }
-        return Ok(Packet::Message);
+    if !are_right(a, b) {
+        return Err(Refusal::WrongIndicators);
     }
-    Err(Refusal::WrongIndicators)
+    if has_error(a) || has_error(b) {
+        return Ok(Packet::Notice);
+    }
+    let protocol = b % 64;
+    if a % 32 != 0 {
+        return put_reply(VERSION_ERROR, protocol, out);
+    }
+    if protocol != IPBCP {
+        return put_reply(VERSION_1, ERROR + protocol, out);
+    }
+    Ok(Packet::Message)
 }
 
 // Opens a packet. If a reply is due, it is put at the front of out.
+#[tactic(auto, using(crate::proofs::OpenLaws::fronts))]
 pub fn open(packet: &[u8], out: &mut [u8]) -> Result<Packet, Refusal>
     ensures { Opens packet.now out.old (opened_packet packet.now) result out.new }
 {
@@ -101,6 +96,7 @@ pub fn open(packet: &[u8], out: &mut [u8]) -> Result<Packet, Refusal>
 }
 
 // Puts the two indicators of a packet in front of a message, which out has from its third octet on.
+#[tactic(auto, using(crate::proofs::WrapLaws::indicated))]
 fn put_indicators(out: &mut [u8])
     requires { 2 ≤ length out.old }
     ensures { out.new ≡ packet_text (drop 2 out.old) }
