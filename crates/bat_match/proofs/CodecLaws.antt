@@ -1,31 +1,20 @@
 -- The codecs of a list go from one to the next: what is at a place of single codecs is one of them, and those after it begin
 -- where it ends.
 -- Assumes nothing.
-use Prim.Native.Nat.{ℕ, ◌+◌, ◌*◌, ◌≤◌, ◌<◌, ◌^◌}
-use mathlib.Core.Path.{◌≡◌, refl, sym, ap, ◌∙◌}
+use Prim.Native.Nat.{ℕ, ◌+◌, ◌*◌, ◌≤◌}
+use mathlib.Core.Path.{◌≡◌, sym, ◌∙◌}
 use mathlib.Core.List.{List, [], ◌∷◌, map}
-use mathlib.Core.Bool.{Bool, true, false, ◌&&◌, and-eq-true_iff}
-use mathlib.Core.Option.{some}
-use lib.ListN.{length, drop, length-drop}
-use lib.Seq.{drop-drop}
-use mir.Syntax.{w64}
-use mir.Val.{Fits}
+use mathlib.Core.Bool.{true, false, ◌&&◌, and-eq-true_iff}
+use lib.ListN.{length}
 use native.Mathlib.Omega.{arith}
-use Rattle.std.specs.Prelude.{Option, Result, Ok, Err, Some, None}
-use Rattle.bat.specs.declared.Unframed.{Unframed}
-use Rattle.octets.specs.Spans.{text_of}
-use Rattle.bat.specs.declared.Frame.{Frame}
 use Rattle.bat.specs.Framing.{Element, whole, front, first, unframed, ended, walk}
 use Rattle.bat.specs.Values.{InnerCodec, inner_codec, all_codecs, offence, with_single, is_single, codec_then, codecs_in}
 use Rattle.bat.specs.Writing.{codec_text}
-use Rattle.bat.specs.FramingMeaning.{header_length, element_in, front_in, HeaderLength, WholeLength}
-use Rattle.bat.proofs.WalkLaws.{front_nil, front_ended, front_whole, front_length, walk_ended, walk_unframed, walk_first, fold_ended, fold_unframed, fold_first, by_front}
-use Rattle.bat.proofs.CountLaws.{frame_ended, frame_unframed, frame_first, frame_length, frame_inside, frame_some, ok_is}
+use Rattle.bat.proofs.WalkLaws.{front_nil, front_whole, front_length, walk_ended, walk_unframed, walk_first, fold_ended, fold_unframed, fold_first, by_front}
 use Rattle.bat.proofs.DecodedLaws.{codec_then_all}
 use Rattle.bat_write.proofs.CodecLaws.{codec_text_lem, single_right}
-use Rattle.bat_match.specs.declared.FramedCodec.{FramedCodec}
 use Rattle.bat_match.specs.Matching.{PlacedCodec, placed_codec, placed_codecs}
-use Rattle.bat_match.specs.Private.{all_singles, CodecAt}
+use Rattle.bat_match.specs.Private.{all_singles}
 
 -- ---- from one element to the next
 module _ (s : List ℕ) where
@@ -33,7 +22,7 @@ module _ (s : List ℕ) where
   unfolding all_singles
   singles_ended q = fold_ended (λ e b. is_single e && b) false true s q
 
-  singles_unframed : front s ≡ unframed → all_singles s ≡ false
+  pub singles_unframed : front s ≡ unframed → all_singles s ≡ false
   unfolding all_singles
   singles_unframed q = fold_unframed (λ e b. is_single e && b) false true s q
 
@@ -106,44 +95,3 @@ few_codecs =
 -- a single codec's contents are the octets that it is compared by
 pub single_octets : (d : ℕ) (e : Element) → is_single e ≡ true → codec_text (placed_codec d e).codec.codec ≡ e.contents
 single_octets d e p = codec_text_lem e.contents (single_right e p)
-
--- at a place of s, which has t from there on, there are single codecs
-module _ (s : List ℕ) (at : ℕ) (singles : all_singles (drop at s) ≡ true) (inside : at < length s) where
-  module _ (t : List ℕ) (here : t ≡ drop at s) (x : Result (Option Frame) Unframed) (is : front_in t x ≡ some (front t)) where
-    -- so one is framed there
-    pub codec_unframed : (r : FramedCodec) (u : Unframed) → x ≡ Err u → CodecAt s at r
-    codec_unframed r u e = absurd (let n = singles_unframed t (frame_unframed t x is u e) in let p : all_singles t ≡ true = rw here singles in let z : ◌≡◌ {A = Bool} true false = cc in let y : ◌≡◌ {A = ℕ} 0 1 = cc in omega arith)
-
-    pub codec_ended : (r : FramedCodec) → x ≡ Ok None → CodecAt s at r
-    codec_ended r e = absurd (let n : t ≡ [] = front_ended t (frame_ended t x is e) in omega (arith, ap (λ (l : List ℕ). length l) n, ap (λ (l : List ℕ). length l) here, length-drop at s))
-
-    module _ (f : Frame) (e : x ≡ Ok (Some f)) (w : ℕ) (l : WholeLength f w) where
-      pub codec_fits : length s < 2 ^ 64 → Fits w64 (at + w)
-      codec_fits h = omega (arith, frame_inside t x is f e w l, ap (λ (z : List ℕ). length z) here, length-drop at s)
-
-      module _ (h : ℕ) (m : HeaderLength f h) where
-        pub header_fits : length s < 2 ^ 64 → Fits w64 (at + h)
-        header_fits k = omega (arith, codec_fits k, l.is, m.is)
-
-        pub codec_here : CodecAt s at (record { contents = record { at = at + h; len = f.length }; end = at + w })
-        unfolding text_of element_in
-        codec_here =
-            let d = element_in t f in
-            let u = drop w t in
-            let q = frame_first t x is f e w l in
-            let k : all_singles t ≡ true = rw here singles in
-            let (single, rest) = (and-eq-true_iff (is_single d) (all_singles u)).0 (sym (singles_first t d u q) ∙ k) in
-            let n : w ≡ length (whole d) = frame_length t x is f e w l in
-            let z : drop (at + w) s ≡ u = rw (here, drop-drop w at s) in
-            record {
-              codec = placed_codec at d;
-              starts = refl;
-              ends = rw n;
-              past = omega (arith, frame_some t x is f e w l);
-              within = omega (arith, frame_inside t x is f e w l, ap (λ (z : List ℕ). length z) here, length-drop at s);
-              reads = rw (m.is, ← drop-drop (header_length f) at s, ← here) (sym (single_octets at d single));
-              rest = rw z rest;
-              are = rw (← here, z) (placed_first at t d u q ∙ rw (← n));
-            }
-
-pub ruleset codecs = (codec_unframed, codec_ended, codec_fits, header_fits, codec_here, ok_is)

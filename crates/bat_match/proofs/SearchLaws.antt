@@ -1,6 +1,6 @@
 -- A search through a list, codec by codec: those passed over are other codecs, so the ones from the place on decide.
 -- Assumes nothing.
-use Prim.Native.Nat.{ℕ, ◌+◌, ◌-◌, ◌≤◌}
+use Prim.Native.Nat.{ℕ, ◌+◌, ◌≤◌}
 use mathlib.Core.Path.{◌≡◌, refl, sym, ap, ◌∙◌}
 use mathlib.Core.Option.{Option-elim}
 use mathlib.Core.Bool.{Bool, true, false}
@@ -12,11 +12,9 @@ use Rattle.std.specs.Prelude.{Result, Ok, Err}
 use Rattle.octets.specs.declared.Refusal.{Refusal}
 use Rattle.octets.specs.declared.Refusal.TheVariants.{NoCommonCodec}
 use Rattle.octets.specs.declared.Span.{Span}
-use Rattle.octets.specs.Spans.{text_of}
 use Rattle.octets.proofs.CaseLaws.{by_le}
 use Rattle.bat.specs.Framing.{whole}
 use Rattle.bat.proofs.WalkLaws.{front_nil, front_length, front_whole, by_front}
-use Rattle.bat_match.specs.declared.FramedCodec.{FramedCodec}
 use Rattle.bat_match.specs.Matching.{PlacedCodec, placed_codecs, CodecList, codec_octets, has_octets, common, first_of, match_of}
 use Rattle.bat_match.specs.Meaning.{choice_of}
 use Rattle.bat_match.specs.Private.{all_singles, codecs_at, CodecAt, FoundAt, FirstCommon, starting_before}
@@ -64,43 +62,28 @@ module _ (s : List ℕ) (from : ℕ) (os : List PlacedCodec) (at : ℕ) (inv : c
   unfolding FirstCommon first_of
   common_end h = record { is = ap first_of (sym inv ∙ none_common h); refusal = refl }
 
-  module _ (r : FramedCodec) (c : CodecAt s at r) (u : List ℕ) (is : u ≡ text_of s r.contents) where
+  module _ (n : ℕ) (u : List ℕ) (c : CodecAt s at n u) where
     has_it : (b : Bool) → b ≡ has_octets u os → has_octets (codec_octets c.codec) os ≡ b
-    has_it b p = sym (p ∙ ap (λ (t : List ℕ). has_octets t os) (is ∙ c.reads))
+    has_it b p = sym (p ∙ ap (λ (t : List ℕ). has_octets t os) c.reads)
 
-    here_common : true ≡ has_octets u os → common (codecs_at s at) os ≡ c.codec ∷ common (codecs_at s r.end) os
+    here_common : true ≡ has_octets u os → common (codecs_at s at) os ≡ c.codec ∷ common (codecs_at s (at + n)) os
     unfolding common
     here_common p = rw (c.are, has_it true p)
 
-    pub common_here : all_singles (drop at s) ≡ true → true ≡ has_octets u os → FirstCommon s from os (Ok (record { at = at; len = r.end - at }))
+    pub common_here : all_singles (drop at s) ≡ true → true ≡ has_octets u os → FirstCommon s from os (Ok (record { at = at; len = n }))
     unfolding FirstCommon first_of
     common_here singles p =
-        let z : c.codec.length ≡ r.end - at = omega (arith, c.ends) in
         record {
           codec = c.codec;
           is = ap first_of (sym inv ∙ here_common p);
-          place = rw (c.starts, z);
-          here = record { inside = omega (arith, c.past, c.within); singles = singles; shared = λ d ds e. let q : c.codec ≡ d = cc c.are in rw (← q) (has_it true p) };
+          place = rw (c.starts, c.length_is);
+          here = record { inside = omega (arith, c.some, c.within); singles = singles; shared = λ d ds e. let q : c.codec ≡ d = cc c.are in rw (← q) (has_it true p) };
           enough = inv;
         }
 
-    pub common_on : false ≡ has_octets u os → common (codecs_at s r.end) os ≡ common (codecs_at s from) os
+    pub common_on : false ≡ has_octets u os → common (codecs_at s (at + n)) os ≡ common (codecs_at s from) os
     unfolding common
     common_on p = sym (rw (c.are, has_it false p)) ∙ inv
-
--- the same with what the code asks of the other list t, from d on
-module _ (s : List ℕ) (from : ℕ) (t : List ℕ) (d at : ℕ) (inv : common (codecs_at s at) (codecs_at t d) ≡ common (codecs_at s from) (codecs_at t d)) (r : FramedCodec) (c : CodecAt s at r) (u : List ℕ) (is : u ≡ text_of s r.contents)
-    (b : Bool) (test : b ≡ has_octets u (codecs_at t d)) where
-  asked : (v : Bool) → b ≡ v → v ≡ has_octets u (codecs_at t d)
-  asked v h = sym h ∙ test
-
-  pub search_here : b ≡ true → all_singles (drop at s) ≡ true → FirstCommon s from (codecs_at t d) (Ok (record { at = at; len = r.end - at }))
-  search_here h singles = common_here s from (codecs_at t d) at inv r c u is singles (asked true h)
-
-  pub search_on : b ≡ false → common (codecs_at s r.end) (codecs_at t d) ≡ common (codecs_at s from) (codecs_at t d)
-  search_on h = common_on s from (codecs_at t d) at inv r c u is (asked false h)
-
-pub ruleset searching = (common_end, search_here, search_on)
 
 -- what is found is the choice of the match
 pub first_is : (s : List ℕ) (from : ℕ) (os : List PlacedCodec) (l : CodecList) (r : Result Span Refusal) → FirstCommon s from os r → r ≡ choice_of (match_of l (common (codecs_at s from) os))

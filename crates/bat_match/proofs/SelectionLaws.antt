@@ -1,21 +1,21 @@
 -- The flags are set codec by codec: the codecs that start before a place and those from it on are always the whole list.
 -- Assumes nothing.
-use Prim.Native.Nat.{ℕ, ◌≤◌}
-use mathlib.Core.Path.{◌≡◌, refl, sym, ap, ◌∙◌}
+use Prim.Native.Nat.{ℕ, ◌+◌, ◌≤◌}
+use mathlib.Core.Path.{◌≡◌, refl, sym, ap, ap₂, ◌∙◌}
 use mathlib.Core.Bool.{Bool, true, false}
 use mathlib.Core.List.{List, [], ◌∷◌, ◌++◌, append_assoc}
 use lib.Dec.{ltb}
-use lib.ListN.{length, drop}
+use lib.ListN.{drop}
 use native.Mathlib.Omega.{arith}
 use borrow.Author.Tests.{lt-ltb, le-ltb}
 use Rattle.octets.specs.Append.{Appends}
-use Rattle.octets.specs.Spans.{text_of}
 use Rattle.octets.proofs.AppendLaws.{append_nil, octet_then}
 use Rattle.octets.proofs.CaseLaws.{by_lt}
-use Rattle.bat_match.specs.declared.FramedCodec.{FramedCodec}
-use Rattle.bat_match.specs.Matching.{PlacedCodec, has_octets}
-use Rattle.bat_match.specs.Private.{codecs_at, CodecAt, SharedAt, starting_before, flag_of, selection_after}
+use Rattle.bat.specs.Elements.{PlacedElement, placed_elements}
+use Rattle.bat_match.specs.Matching.{PlacedCodec, codec_octets, has_octets}
+use Rattle.bat_match.specs.Private.{all_singles, codecs_at, CodecAt, SharedAt, starting_before, flag_of, selection_after}
 use Rattle.bat_match.proofs.SearchLaws.{none_from, none_left}
+use Rattle.bat_match.proofs.PlacedLaws.{LeftAt, Step, step_of, nothing_left}
 
 -- ---- one flag
 module _ (t s : List ℕ) (d : ℕ) (before : List PlacedCodec) (a : Bool) (found : a ≡ has_octets t (codecs_at s d)) where
@@ -54,57 +54,62 @@ before_earlier m n (x ∷ xs) h =
     (λ k. rw (le-ltb x.start m k) ih)
 
 -- P are the codecs of the list; at a place of s, those before it and those from it on are P
-module _ (s : List ℕ) (P : List PlacedCodec) where
-  module _ (at : ℕ) (split : P ≡ starting_before at P ++ codecs_at s at) (r : FramedCodec) (c : CodecAt s at r) where
-    next_before : starting_before r.end P ≡ starting_before at P ++ (c.codec ∷ [])
-    unfolding starting_before
-    next_before =
-        let z : ltb c.codec.start r.end ≡ true = lt-ltb c.codec.start r.end (omega (arith, c.starts, c.past)) in
-        ap (starting_before r.end) (split ∙ ap (λ (l : List PlacedCodec). starting_before at P ++ l) c.are)
-        ∙ before_append r.end (starting_before at P) (c.codec ∷ codecs_at s r.end)
-        ∙ rw (before_earlier at r.end P (omega (arith, c.past)), z, none_from (drop r.end s) r.end r.end (omega arith))
+module _ (s : List ℕ) (P : List PlacedCodec) (at : ℕ) (split : P ≡ starting_before at P ++ codecs_at s at) (n : ℕ) (u : List ℕ) (c : CodecAt s at n u) where
+  next_before : starting_before (at + n) P ≡ starting_before at P ++ (c.codec ∷ [])
+  unfolding starting_before
+  next_before =
+      let z : ltb c.codec.start (at + n) ≡ true = lt-ltb c.codec.start (at + n) (omega (arith, c.starts, c.some)) in
+      ap (starting_before (at + n)) (split ∙ ap (λ (l : List PlacedCodec). starting_before at P ++ l) c.are)
+      ∙ before_append (at + n) (starting_before at P) (c.codec ∷ codecs_at s (at + n))
+      ∙ rw (before_earlier at (at + n) P (omega (arith, c.some)), z, none_from (drop (at + n) s) (at + n) (at + n) (omega arith))
 
-    pub next_split : P ≡ starting_before r.end P ++ codecs_at s r.end
-    next_split = split ∙ ap (λ (l : List PlacedCodec). starting_before at P ++ l) c.are ∙ sym (append_assoc (starting_before at P) (c.codec ∷ []) (codecs_at s r.end)) ∙ ap (λ (l : List PlacedCodec). l ++ codecs_at s r.end) (sym next_before)
+  next_split : P ≡ starting_before (at + n) P ++ codecs_at s (at + n)
+  next_split = split ∙ ap (λ (l : List PlacedCodec). starting_before at P ++ l) c.are ∙ sym (append_assoc (starting_before at P) (c.codec ∷ []) (codecs_at s (at + n))) ∙ ap (λ (l : List PlacedCodec). l ++ codecs_at s (at + n)) (sym next_before)
 
-  -- ---- one flag after the other: whatever goes on from there with the rest ends as all flags do
-  module _ (os : List PlacedCodec) (at k : ℕ) (out out₀ : List ℕ) (k₀ : ℕ) (all : List ℕ)
-      (inv : (r : ℕ) (g : List ℕ) → Appends out k (selection_after (starting_before at P) (codecs_at s at) os) r g → Appends out₀ k₀ all r g) where
-    selection_end : length s ≤ at → Appends out₀ k₀ all k out
+-- ---- one flag after the other
+-- The flags of the codecs of s from d on: the buffer has `out` to k, xs are left, and whatever goes on from there with the rest
+-- ends as all flags do.
+pub record Flagging (s : List ℕ) (d : ℕ) (os : List PlacedCodec) (out₀ : List ℕ) (xs : List PlacedElement) (out : List ℕ) (k : ℕ) : Type 0 where
+  pub place : ℕ
+  pub left : LeftAt s place xs
+  pub split : codecs_at s d ≡ starting_before place (codecs_at s d) ++ codecs_at s place
+  pub ends : (r : ℕ) (g : List ℕ) → Appends out k (selection_after (starting_before place (codecs_at s d)) (codecs_at s place) os) r g → Appends out₀ 0 (selection_after [] (codecs_at s d) os) r g
+
+module _ (s : List ℕ) (d : ℕ) (os : List PlacedCodec) where
+  pub flags_start : (out : List ℕ) (xs : List PlacedElement) → all_singles (drop d s) ≡ true → xs ≡ placed_elements d (drop d s) → Flagging s d os out xs out 0
+  flags_start out xs singles are =
+      let z = none_from (drop d s) d d (omega arith) in
+      record { place = d; left = record { are = are; singles = singles }; split = rw z; ends = λ r g p. rw z at p }
+
+  module _ (out₀ : List ℕ) (xs : List PlacedElement) (out : List ℕ) (k : ℕ) (f : Flagging s d os out₀ xs out k) where
+    pub flags_end : xs ≡ [] → Appends out₀ 0 (selection_after [] (codecs_at s d) os) k out
     unfolding selection_after
-    selection_end h = inv k out (rw (none_left s at h) (append_nil out k))
+    flags_end h = f.ends k out (rw (none_left s f.place (nothing_left s f.place xs f.left h)) (append_nil out k))
 
-    module _ (split : P ≡ starting_before at P ++ codecs_at s at) (r : FramedCodec) (c : CodecAt s at r) (t : List ℕ) (is : t ≡ text_of s r.contents)
-        (m : ℕ) (told : m ≡ flag_of t (starting_before at P) os) where
-      pub selection_more : (j : ℕ) (h : List ℕ) → Appends out k (m ∷ []) j h
-          → (r' : ℕ) (g : List ℕ) → Appends h j (selection_after (starting_before r.end P) (codecs_at s r.end) os) r' g → Appends out₀ k₀ all r' g
+    module _ (p : PlacedElement) (ys : List PlacedElement) (next : xs ≡ p ∷ ys) where
+      step : Step s f.place p ys
+      step = step_of s f.place xs f.left p ys next
+
+      -- the flag of the first codec, which the other list has
+      pub flag_first : SharedAt s d os → p.at ≡ d → 1 ≡ flag_of p.element.contents (starting_before p.at (codecs_at s d)) os
+      unfolding has_octets
+      flag_first here e =
+          let c : CodecAt s d p.length p.element.contents = rw (sym step.at ∙ e) at step.codec in
+          rw (e, none_from (drop d s) d d (omega arith), c.reads, here.shared c.codec (codecs_at s (d + p.length)) c.are)
+
+      pub flags_more : (m : ℕ) → m ≡ flag_of p.element.contents (starting_before p.at (codecs_at s d)) os → (j : ℕ) (h : List ℕ) → Appends out k (m ∷ []) j h → Flagging s d os out₀ ys h j
       unfolding selection_after
-      selection_more j h p r' g q =
-          let z : Appends h j (selection_after (starting_before at P ++ (c.codec ∷ [])) (codecs_at s r.end) os) r' g = rw (next_before at split r c) at q in
-          inv r' g (rw (c.are, ← c.reads, ← is, ← told) (octet_then out g h k j r' m _ z p))
-
--- ---- the first flag, of a codec that the other list has
--- none starts before the first
-module _ (s : List ℕ) (d : ℕ) where
-  start_split : codecs_at s d ≡ starting_before d (codecs_at s d) ++ codecs_at s d
-  start_split = rw (none_from (drop d s) d d (omega arith))
-
-  start_selection : (os : List PlacedCodec) (out : List ℕ) (r : ℕ) (g : List ℕ) → Appends out 0 (selection_after (starting_before d (codecs_at s d)) (codecs_at s d) os) r g → Appends out 0 (selection_after [] (codecs_at s d) os) r g
-  start_selection os out r g p = rw (none_from (drop d s) d d (omega arith)) at p
-
-  module _ (os : List PlacedCodec) (here : SharedAt s d os) (r : FramedCodec) (c : CodecAt s d r) where
-    first_flag : 1 ≡ flag_of (text_of s r.contents) (starting_before d (codecs_at s d)) os
-    unfolding has_octets
-    first_flag = rw (none_from (drop d s) d d (omega arith), c.reads, here.shared c.codec (codecs_at s r.end) c.are)
-
-    pub first_split : codecs_at s d ≡ starting_before r.end (codecs_at s d) ++ codecs_at s r.end
-    first_split = next_split s (codecs_at s d) d start_split r c
-
-    -- the flag 1, then those of the others, up to the end of s
-    pub first_selection : (out : List ℕ) (j : ℕ) (h : List ℕ) → Appends out 0 (1 ∷ []) j h → (at k : ℕ) (g : List ℕ)
-        → ((r' : ℕ) (f : List ℕ) → Appends g k (selection_after (starting_before at (codecs_at s d)) (codecs_at s at) os) r' f → Appends h j (selection_after (starting_before r.end (codecs_at s d)) (codecs_at s r.end) os) r' f)
-        → length s ≤ at → Appends out 0 (selection_after [] (codecs_at s d) os) k g
-    first_selection out j h p at k g inv end =
-        let rest = selection_after (starting_before r.end (codecs_at s d)) (codecs_at s r.end) os in
-        selection_more s (codecs_at s d) os d 0 out out 0 (selection_after [] (codecs_at s d) os) (start_selection os out) start_split r c (text_of s r.contents) refl 1 first_flag j h p k g
-        (selection_end s (codecs_at s d) os at k g h j rest inv end)
+      flags_more m told j h a =
+          let P = codecs_at s d in
+          let c = step.codec in
+          let n = f.place + p.length in
+          let before = next_before s P f.place f.split p.length p.element.contents c in
+          let is : m ≡ flag_of (codec_octets c.codec) (starting_before f.place P) os = told ∙ ap₂ (λ (t : List ℕ) (e : ℕ). flag_of t (starting_before e P) os) c.reads step.at in
+          record {
+            place = n;
+            left = record { are = step.left; singles = c.rest };
+            split = next_split s P f.place f.split p.length p.element.contents c;
+            ends = λ r g q.
+                let z : Appends h j (selection_after (starting_before f.place P ++ (c.codec ∷ [])) (codecs_at s n) os) r g = rw before at q in
+                f.ends r g (rw (c.are, ← is) (octet_then out g h k j r m _ z a));
+          }

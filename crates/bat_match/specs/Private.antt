@@ -6,13 +6,11 @@ use Rattle.octets.specs.declared.Refusal.{Refusal}
 use Rattle.octets.specs.declared.Refusal.TheVariants.{DataTooLong, Unframed, NoCodecList, NoCommonCodec}
 use Rattle.octets.specs.Refusals.{refusal_number}
 use Rattle.octets.specs.Puts.{bounded}
-use Rattle.octets.specs.Spans.{text_of}
 use Rattle.bat.specs.Framing.{Element, elements, most_octets}
 use Rattle.bat.specs.Values.{meant}
 use Rattle.bat.specs.Writing.{element_text, bit_text}
 unfoldable pub use Rattle.bat_match.specs.Singles.{all_singles}
 use Rattle.bat_match.specs.declared.list.FramedList.{FramedList}
-use Rattle.bat_match.specs.declared.FramedCodec.{FramedCodec}
 use Rattle.bat_match.specs.Matching.{PlacedCodec, placed_codecs, CodecList, only_list, codec_octets, has_octets, has_codec, common, first_of, MatchResult, refused, match_of, matching}
 use Rattle.bat_match.specs.Meaning.{place_of, reduced_answer, reduced_leaves}
 
@@ -21,16 +19,16 @@ use Rattle.bat_match.specs.Meaning.{place_of, reduced_answer, reduced_leaves}
 abbrev pub codecs_at : List ℕ → ℕ → List PlacedCodec
 codecs_at s d = placed_codecs d (drop d s)
 
--- r is the codec at a place of s, and those after it begin where it ends
-pub record CodecAt (s : List ℕ) (at : ℕ) (r : FramedCodec) : Type 0 where
+-- at a place of s is a codec whose element has n octets and the contents u; those after it begin where it ends
+pub record CodecAt (s : List ℕ) (at n : ℕ) (u : List ℕ) : Type 0 where
   pub codec : PlacedCodec
   pub starts : codec.start ≡ at
-  pub ends : at + codec.length ≡ r.end
-  pub past : at < r.end
-  pub within : r.end ≤ length s
-  pub reads : text_of s r.contents ≡ codec_octets codec
-  pub rest : all_singles (drop r.end s) ≡ true
-  pub are : codecs_at s at ≡ codec ∷ codecs_at s r.end
+  pub length_is : codec.length ≡ n
+  pub some : 1 ≤ n
+  pub within : at + n ≤ length s
+  pub reads : u ≡ codec_octets codec
+  pub rest : all_singles (drop (at + n) s) ≡ true
+  pub are : codecs_at s at ≡ codec ∷ codecs_at s (at + n)
 
 -- at a place of s is a codec that is among os too, and only single codecs follow
 pub record SharedAt (s : List ℕ) (at : ℕ) (os : List PlacedCodec) : Type 0 where

@@ -39,13 +39,6 @@ pub struct AnswerForC {
     pub written: usize,
 }
 
-// A codec at a place of a list: the octets of its organisation, type and configuration, and the place where it ends.
-#[derive(Clone, Copy)]
-struct FramedCodec {
-    contents: Span,
-    end: usize,
-}
-
 // Chooses the first codec of the leading list that the other list also has. The answer is the place of its whole element in
 // `leading`, or what refuses the two: number 1, 2, 14 or 15.
 pub fn choose(leading: &[u8], other: &[u8]) -> Result<Span, Refusal>

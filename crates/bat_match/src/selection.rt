@@ -4,9 +4,8 @@ ghost use Rattle.octets.specs.Append.{Appends};
 ghost use Rattle.bat_match.specs.Private.{all_singles, codecs_at, SharedAt, starting_before, flag_of, selection_after};
 
 use crate::list::FramedList;
-use crate::search::{codec_at, has_codec, has_codec_before};
+use crate::search::{has_codec, has_codec_before};
 use octets::append::push_octet;
-use octets::spans::text;
 
 // The flag of the codec with these contents at a place of the leading list: 1 if the other list has it too, and it is not a
 // repeat of one before it.
@@ -28,16 +27,14 @@ pub(crate) fn select_codecs(leading: FramedList, other: FramedList, flags: &mut 
     requires { SharedAt leading.string.now leading.from (codecs_at other.string.now other.from) }
     ensures { Appends flags.old 0 (selection_after [] (codecs_at leading.entry.string.now leading.entry.from) (codecs_at other.entry.string.now other.entry.from)) result flags.new }
 {
-    let s = leading.string;
-    let chosen = codec_at(s, leading.from);
-    let mut n = push_octet(1, flags, 0);
-    let mut at = chosen.end;
-    while at < s.len() {
-        let c = codec_at(s, at);
-        let p = c.contents;
-        let m = flag_of(text(s, p), leading, at, other);
-        n = push_octet(m, flags, n);
-        at = c.end;
+    let mut n = 0;
+    for c in leading.codecs() {
+        if c.at == leading.from {
+            n = push_octet(1, flags, n);
+        } else {
+            let m = flag_of(c.contents(), leading, c.at, other);
+            n = push_octet(m, flags, n);
+        }
     }
     n
 }

@@ -15,6 +15,6 @@ pub returns : goal.returns
 returns c =
     let s = drop c.args.list.from c.args.list.string.now in
     any_from_yields_List (λ (p : PlacedElement). same c.args.contents.now p.element.contents) c.any.new.self _ _ c.any.ensures.ran
-    (YieldsList-from_first placed_in left (placed_elements c.args.list.from s) c.new.ensures)
+    (YieldsList-from_first placed_in left (placed_elements c.args.list.from s) c.codecs.ensures)
     (λ x b q k. search (rules, tests))
     ∙ any_placed c.args.contents.now s c.args.list.from c.args.list.singles

@@ -16,6 +16,6 @@ pub returns : goal.returns
 returns c =
     let s = drop c.args.list.from c.args.list.string.now in
     any_from_yields_List (λ (p : PlacedElement). same c.args.contents.now p.element.contents) c.any.new.self _ _ c.any.ensures.ran
-    (YieldsList-from_take_while _ (λ (p : PlacedElement). ltb p.at c.args.end) (YieldsList-from_first placed_in left (placed_elements c.args.list.from s) (ap left c.take_while.ensures.source ∙ c.new.ensures)) c.take_while.ensures.closure c.take_while.ensures.done (λ x b q k. search (rules, tests)))
+    (YieldsList-from_take_while _ (λ (p : PlacedElement). ltb p.at c.args.end) (YieldsList-from_first placed_in left (placed_elements c.args.list.from s) (ap left c.take_while.ensures.source ∙ c.codecs.ensures)) c.take_while.ensures.closure c.take_while.ensures.done (λ x b q k. search (rules, tests)))
     (λ x b q k. search (rules, tests))
     ∙ any_before c.args.contents.now s c.args.list.from c.args.end c.args.list.singles
