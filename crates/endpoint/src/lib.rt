@@ -108,10 +108,7 @@ impl Endpoint {
     pub fn in_force(&self) -> Option<&Bearer>
         ensures { in_force_by result ≡ settled (book_of self.now) }
     {
-        if holds(self.state) {
-            return Some(&self.bearer);
-        }
-        None
+        holds(self.state).then_some(&self.bearer)
     }
 
     // Any event; m is the message of `Event::Message`, ignored for other events.

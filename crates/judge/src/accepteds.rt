@@ -1,8 +1,8 @@
 // Judging an Accepted.
-ghost use Rattle.std.specs.Prelude.{ℕ, ◌≡◌, List};
+ghost use Rattle.std.specs.Prelude.{◌≡◌};
 ghost use Rattle.media.specs.Meaning.{stream_by};
 ghost use Rattle.configuration.specs.Meaning.{configuration_by};
-ghost use Rattle.bearer.specs.Judging.{same_offer, unmoved_address, right_accepted};
+ghost use Rattle.bearer.specs.Judging.{same_offer, right_accepted};
 ghost use Rattle.bearer.specs.Meaning.{request_by, named_by, in_force_by};
 
 use crate::addresses::same_family;
@@ -24,19 +24,8 @@ fn same_stream(o: Stream, offer: &[u8], s: Stream, m: &[u8]) -> bool
         && equals(text(offer, o.rtpmap), text(m, s.rtpmap))
 }
 
-// The address is that of the bearer in force, if there is one. The texts, in m, do not matter.
-#[tactic(auto, using(crate::proofs::AddressLaws::equal_is), unfolding(bearer::specs::Judging::unmoved_address, bearer::specs::Meaning::bearer_by, bearer::specs::Meaning::named_by))]
-fn same_host(in_force: Option<&Bearer>, d: Description) -> bool
-    ensures { (m : List ℕ) → result ≡ unmoved_address (in_force_by in_force.entry) (named_by m d) }
-{
-    match in_force {
-        None => true,
-        Some(b) => b.address == d.address,
-    }
-}
-
-// The Accepted that says d, whose texts are in m, is right for the Request q.
-#[tactic(auto, unfolding(bearer::specs::Judging::right_accepted, bearer::specs::Meaning::named_by, bearer::specs::Meaning::request_by, media::specs::Meaning::stream_by, configuration::specs::Meaning::configuration_by))]
+// The Accepted that says d, whose texts are in m, is right for the Request q: the address is as in force, if a bearer is.
+#[tactic(auto, using(crate::proofs::AddressLaws::equal_is), unfolding(bearer::specs::Judging::right_accepted, bearer::specs::Judging::unmoved_address, bearer::specs::Meaning::bearer_by, bearer::specs::Meaning::named_by, bearer::specs::Meaning::request_by, media::specs::Meaning::stream_by, configuration::specs::Meaning::configuration_by))]
 pub fn right_accepted(
     c: Config,
     in_force: Option<&Bearer>,
@@ -49,5 +38,5 @@ pub fn right_accepted(
     same_family(c.own, d.address)
         && same_stream(q.stream, &q.text, d.stream, m)
         && none_or_in_range(c, u16::from(d.stream.ptime))
-        && same_host(in_force, d)
+        && in_force.is_none_or(|b| b.address == d.address)
 }
