@@ -6,7 +6,7 @@ ghost use Rattle.line_run.specs.Run.{SameLengths};
 use line_run::Answer;
 use octets::append::Cursor;
 use std::io::{Read, Write};
-use trace::{Phase, Session};
+use trace::Session;
 
 // The most octets of a line of a detailed trace, without its LF: the length of a buffer may come before the event.
 pub const MOST_DETAIL: usize = 4096;
@@ -38,7 +38,7 @@ impl Answer for Tracer {
 
     // Once the configuration is refused, nothing more is printed.
     fn goes_on(&self) -> bool {
-        !matches!(self.session.phase, Phase::Stopped)
+        !matches!(self.session, Session::Stopped)
     }
 
     fn finish(&self, out: &mut Cursor<'_>) {
