@@ -3,17 +3,18 @@
 use Prim.Native.Nat.{ℕ, zero, suc, ◌+◌, ◌-◌, ◌/◌, ◌%◌, ◌≤◌, ◌<◌, min}
 use mathlib.Core.Path.{◌≡◌, refl, sym, ap, ◌∙◌}
 use mathlib.Core.List.{List, [], ◌∷◌, ◌++◌, append_assoc, append-nil as append_empty}
-use lib.ListN.{length, take, drop, set, length-set, length-append, length-take, length-drop, drop_of_length-le}
-use lib.Seq.{take_all, take-nil, take-append-le, take-append-add, drop-drop}
+use lib.ListN.{length, get_or, take, drop, set, length-set, length-append, length-take, length-drop, drop_of_length-le}
+use lib.Seq.{take_all, take-nil, take-append-le, take-append-add}
+use native.Mathlib.Nat.{add-zero}
 use native.Mathlib.Numerals.{add-one, sub-one}
 use native.Mathlib.Omega.{arith}
-use borrow.Rule.Slice.PartMut.{put_mid}
 use borrow.Author.Tests.{lt-ltb, le-ltb}
+use Rattle.std.proofs.lemmas.List.{get_or-take}
 use Rattle.octets.specs.Append.{put, next_of, appended, Appends, width_from, number_text}
 use Rattle.octets.specs.Private.{Tail}
 use Rattle.octets.specs.Decimal.{last_digits}
 use Rattle.octets.proofs.CaseLaws.{by_lt}
-use Rattle.octets.proofs.Laws.{drop_set_here, put_nil, put_cons, length_put, put_append}
+use Rattle.octets.proofs.Laws.{next, drop_set_here, put_nil, put_cons, length_put, put_append}
 
 -- a text that finds no room
 pub push_none : (l : List ℕ) (at : ℕ) (vs : List ℕ) → length l ≤ at → Appends l at vs at l
@@ -22,20 +23,30 @@ push_none l at vs h =
     let z : length l - at ≡ 0 = omega arith in
     record { next = omega arith; leaves = rw z (sym (put_nil l at)) }
 
--- src is put at `at` of the buffer l as far as there is room, n octets of it
-pub push_some : (src l p : List ℕ) (at n : ℕ) → at < length l → n ≡ min (length src) (length l - at) → p ≡ take n src
-    → Appends l at src (at + n) (put_mid at (at + n - at) l p)
-unfolding next_of appended put
-push_some src l p at n h m e =
-    let t = take (length l - at) src in
-    let same : take n src ≡ t =
-    by_lt (length src) (length l - at) _
-    (λ k. take_all n src (omega arith) ∙ sym (take_all (length l - at) src (omega arith)))
-    (λ k. let z : n ≡ length l - at = omega arith in rw z)
-    in
-    let q : length t ≡ n = simp length-take (omega arith) in
-    let z : at + n - at ≡ n = omega arith in
-    record { next = omega arith; leaves = rw (z, e, same, q, drop-drop n at l, append_assoc) }
+-- src is put at `at` of the buffer, which has l₀, as far as there is room, n octets of it. Before octet j the buffer has l.
+module _ (src l l₀ : List ℕ) (at n j : ℕ) (low : at < length l₀) (m : n ≡ min (length src) (length l₀ - at)) (inv : put l (at + j) (drop j (take n src)) ≡ put l₀ at (take n src)) where
+  pub push_turn : j < n → length l ≡ length l₀ → put (set l (at + j) (get_or src j 0)) (at + (j + 1)) (drop (j + 1) (take n src)) ≡ put l₀ at (take n src)
+  push_turn h e =
+      let z : at + (j + 1) ≡ at + j + 1 = omega arith in
+      let q : length (take n src) ≡ n = simp length-take (omega arith) in
+      rw (z, ← get_or-take n src j 0 h)
+      (sym (put_cons l (at + j) (get_or (take n src) j 0) (drop (j + 1) (take n src)) (omega arith)) ∙ rw (next (take n src) j (omega arith)) at inv)
+
+  pub push_some : n ≤ j → Appends l₀ at src (at + n) l
+  unfolding next_of appended
+  push_some h =
+      let t = take (length l₀ - at) src in
+      let same : take n src ≡ t =
+      by_lt (length src) (length l₀ - at) _
+      (λ k. take_all n src (omega arith) ∙ sym (take_all (length l₀ - at) src (omega arith)))
+      (λ k. let z : n ≡ length l₀ - at = omega arith in rw z)
+      in
+      let q : length (take n src) ≤ j = simp length-take (omega arith) in
+      let put_all : l ≡ put l₀ at (take n src) = sym (put_nil l (at + j)) ∙ rw (drop_of_length-le (take n src) q) at inv in
+      record { next = omega arith; leaves = rw same at put_all }
+
+pub push_start : (vs l : List ℕ) (at : ℕ) → put l (at + 0) (drop 0 vs) ≡ put l at vs
+push_start vs l at = rw add-zero
 
 -- nothing appended
 pub append_nil : (l : List ℕ) (at : ℕ) → Appends l at [] at l

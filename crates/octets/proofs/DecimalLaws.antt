@@ -3,14 +3,16 @@
 use Prim.Native.Nat.{ℕ, ◌+◌, ◌-◌, ◌*◌, ◌≤◌, ◌<◌}
 use mathlib.Core.Path.{◌≡◌, refl, sym, ap, ◌∙◌}
 use mathlib.Core.List.{List, [], ◌∷◌}
-use mathlib.Core.Bool.{true, false, and-false}
+use mathlib.Core.Bool.{true, false, ◌&&◌, and-false}
 use lib.ListN.{length, get_or, drop, drop_of_length-le}
 use native.Mathlib.Nat.{le_trans, le_refl}
 use native.Mathlib.Omega.{arith}
+use lib.Dec.{leb}
 use borrow.Author.Tests.{le-leb, lt-leb, eq-eqb, ne_eqb}
 use Rattle.std.specs.declared.option.Option.{Option}
 use Rattle.std.specs.declared.option.Option.TheVariants.{Some, None}
 use Rattle.octets.specs.Decimal.{is_digit, all_digits, value_from, shortest, number_from, read_number, on_number}
+use Rattle.octets.proofs.CaseLaws.{by_eq, by_lt, by_bool}
 use Rattle.octets.proofs.Laws.{next}
 
 from_digit : (n b : ℕ) (bs : List ℕ) → is_digit b ≡ true → number_from n (b ∷ bs) ≡ number_from (n * 10 + (b - 48)) bs
@@ -79,6 +81,38 @@ unfolding read_number shortest
 read_more [] x e h z = absurd (omega arith)
 read_more (b ∷ []) x e h z = absurd (omega arith)
 read_more (b ∷ d ∷ bs) x e h z = simp (ne_eqb b 48 z) e
+
+-- a number of four digits or more is 1,000 at least
+number_told : (n : ℕ) (s : List ℕ) (m : ℕ) → number_from n s ≡ Some m → m ≡ value_from n s
+unfolding number_from
+number_told n s m e =
+    by_bool (all_digits s && leb (value_from n s) 65535) _
+    (λ b. let k : ◌≡◌ {A = Option ℕ} (Some (value_from n s)) (Some m) = rw b at e in cc)
+    (λ b. let k : ◌≡◌ {A = Option ℕ} None (Some m) = rw b at e in let z : ◌≡◌ {A = ℕ} 0 1 = cc in absurd (omega arith))
+
+number_starts : (n b : ℕ) (bs : List ℕ) (m : ℕ) → number_from n (b ∷ bs) ≡ Some m → 48 ≤ b
+unfolding number_from all_digits is_digit
+number_starts n b bs m e =
+    by_lt b 48 _
+    (λ l. let k : ◌≡◌ {A = Option ℕ} None (Some m) = rw (lt-leb 48 b l) at e in let z : ◌≡◌ {A = ℕ} 0 1 = cc in absurd (omega arith))
+    (λ l. l)
+
+pub number_long : (s : List ℕ) → 4 ≤ length s → (n : ℕ) → read_number s ≡ Some n → 1000 ≤ n
+unfolding read_number shortest value_from
+number_long [] h n e = absurd (omega arith)
+number_long (a ∷ []) h n e = absurd (omega arith)
+number_long (a ∷ b ∷ []) h n e = absurd (omega arith)
+number_long (a ∷ b ∷ c ∷ []) h n e = absurd (omega arith)
+number_long (a ∷ b ∷ c ∷ d ∷ s) h n e =
+    by_eq a 48 _
+    (λ z. let k : ◌≡◌ {A = Option ℕ} None (Some n) = rw (eq-eqb a 48 z) at e in let w : ◌≡◌ {A = ℕ} 0 1 = cc in absurd (omega arith))
+    (λ z.
+    let k : number_from 0 (a ∷ b ∷ c ∷ d ∷ s) ≡ Some n = rw (ne_eqb a 48 z) at e in
+    let low : 48 ≤ a = number_starts 0 a (b ∷ c ∷ d ∷ s) n k in
+    let is : n ≡ value_from 0 (a ∷ b ∷ c ∷ d ∷ s) = number_told 0 (a ∷ b ∷ c ∷ d ∷ s) n k in
+    let more = value_grows ((((0 * 10 + (a - 48)) * 10 + (b - 48)) * 10 + (c - 48)) * 10 + (d - 48)) s in
+    let first : (a ≡ 48 → ⊥) = z in
+    by_lt 48 a _ (λ l. omega (arith, is, more)) (λ l. absurd (first (omega arith))))
 
 pub ruleset reading = (read_none, read_one, read_zero, read_more)
 

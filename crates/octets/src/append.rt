@@ -70,7 +70,10 @@ pub fn push(src: &[u8], out: &mut [u8], at: usize) -> usize
         return at;
     }
     let n = src.len().min(out.len() - at);
-    out[at..at + n].copy_from_slice(&src[..n]);
+    // `copy_from_slice` would need C's `memmove`, which the libraries for C do without.
+    for j in 0..n {
+        out[at + j] = src[j];
+    }
     at + n
 }
 
