@@ -21,7 +21,7 @@ use Rattle.octets.specs.Split.{before, split_on, find_at, Found, part_at}
 use Rattle.octets.proofs.CaseLaws.{by_eq, by_le, by_lt, by_bool}
 use Rattle.octets.proofs.SplitLaws.{found_first, found, split_some, part_is, part_dot, part_last}
 use Rattle.texts.specs.Tokens.{token, none_empty, token_count, after_blank, after_token, tokens_of}
-use Rattle.texts.specs.Meaning.{cut_in}
+use Rattle.texts.specs.Meaning.{cut_in, places_from}
 
 -- ---- the first blank, at e
 module _ (s : List ℕ) (e : ℕ) (f : Found s 32 0 e) where
@@ -202,6 +202,55 @@ cut_all s N i from xs inv all is =
     let z : N - i ≡ 0 = omega arith in
     let w : take i xs ≡ xs = take_all i xs (omega arith) in
     ap (λ (l : List (List ℕ)). some l) (sym (append-nil (list.map (text_of s) xs))) ∙ rw (z, w) at inv
+
+-- ---- the places of the tokens: those of the first i are in xs, and the others start at `from`
+unfoldable pub places_left : ℕ → ℕ → List ℕ → List Span
+places_left zero from s = []
+places_left (suc n) from s = places_from from (split_on 32 (drop from s))
+
+module _ (s : List ℕ) (N : ℕ) (xs : List Span) where
+  abbrev pub Placed : (i from : ℕ) → Type 0
+  Placed i from = take i xs ++ places_left (N - i) from s ≡ places_from 0 (split_on 32 s)
+
+  pub placed_first : 0 < N → Placed 0 0
+  unfolding places_left
+  placed_first h =
+      let z : N - 0 ≡ suc (N - 1) = omega arith in
+      rw z
+
+module _ (s : List ℕ) (N i from e : ℕ) (f : Found s 32 from e) where
+  abbrev here_at : Span
+  here_at = record { at = from; len = e - from }
+
+  places_more : not (beq (eqb (i + 1) N) (leb (length s) e)) ≡ false → i < N → places_left (N - i) from s ≡ here_at ∷ places_left (N - (i + 1)) (e + 1) s
+  unfolding places_left places_from find_at
+  places_more k l =
+      let len : length (before 32 (drop from s)) ≡ e - from = omega (arith, f.is) in
+      let next : from + length (before 32 (drop from s)) + 1 ≡ e + 1 = omega (arith, f.is) in
+      by_eq (i + 1) N _
+      (λ x. by_le (length s) e _
+      (λ y. let z : N - i ≡ 1 = omega arith in
+      let v : N - (i + 1) ≡ 0 = omega arith in
+      rw (z, v, part_last s 32 from e f.is y, len))
+      (λ y. let w : true ≡ false = rw (eq-eqb (i + 1) N x, lt-leb (length s) e y) at k in absurd (cc)))
+      (λ x. by_le (length s) e _
+      (λ y. let w : true ≡ false = rw (ne_eqb (i + 1) N x, le-leb (length s) e y) at k in absurd (cc))
+      (λ y. let z : N - i ≡ suc (suc (N - (i + 2))) = omega arith in
+      let v : N - (i + 1) ≡ suc (N - (i + 2)) = omega arith in
+      rw (z, v, part_dot s 32 from e f.is y, next, len)))
+
+  pub placed_next : (xs : List Span) → Placed s N xs i from → length xs ≡ N → not (beq (eqb (i + 1) N) (leb (length s) e)) ≡ false → i < N
+      → Placed s N (set xs i (record { at = from; len = e - from })) (i + 1) (e + 1)
+  placed_next xs inv all k l =
+      rw (take_more_set xs i here_at (omega arith), append_assoc (take i xs) (here_at ∷ []) (places_left (N - (i + 1)) (e + 1) s), ← places_more k l)
+      inv
+
+pub placed_all : (s : List ℕ) (N i from : ℕ) (xs : List Span) → Placed s N xs i from → length xs ≡ N → i ≡ N → xs ≡ places_from 0 (split_on 32 s)
+unfolding places_left
+placed_all s N i from xs inv all is =
+    let z : N - i ≡ 0 = omega arith in
+    let w : take i xs ≡ xs = take_all i xs (omega arith) in
+    sym (append-nil xs) ∙ rw (z, w) at inv
 
 -- ---- for callers: what such a cut tells of the tokens
 told_some : (b : Bool) (xs ps : List (List ℕ)) → cond b (some xs) none ≡ some ps → (b ≡ true) × (xs ≡ ps)

@@ -1,11 +1,13 @@
 // Tokens of a text and what comes after its first blank, and parts of parts of a text as spans.
 #![tactic(auto)]
 
-ghost use Rattle.std.specs.Prelude.{◌≡◌, ltb, drop};
+ghost use Rattle.std.specs.Prelude.{◌≡◌, ltb, drop, IfSome};
 ghost use Rattle.octets.specs.Spans.{text_of};
 ghost use Rattle.octets.specs.Chain.{when};
+ghost use Rattle.octets.specs.Split.{split_on};
+ghost use Rattle.octets.specs.Text.{blank};
 ghost use Rattle.texts.specs.Tokens.{after_blank, after_token, tokens_of};
-ghost use Rattle.texts.specs.Meaning.{cut_in};
+ghost use Rattle.texts.specs.Meaning.{cut_in, places_from};
 
 use octets::Span;
 use octets::parts::find_from;
@@ -58,7 +60,8 @@ pub fn after_token(s: &[u8]) -> &[u8]
 
 // The places of the N tokens of s, if it has so many; none for no tokens.
 pub fn cut<const N: usize>(s: &[u8]) -> Option<[Span; N]>
-    ensures { cut_in s.now result ≡ when (ltb 0 N) (tokens_of N s.now) }
+    ensures tokens { cut_in s.now result ≡ when (ltb 0 N) (tokens_of N s.now) }
+    ensures places { IfSome result (λ xs. xs ≡ places_from 0 (split_on blank s.now)) }
 {
     if N == 0 {
         return None;

@@ -3,7 +3,7 @@
 use Prim.Native.Nat.{◌+◌, ◌≤◌}
 use mathlib.Core.Path.{◌≡◌}
 use lib.ListN.{length}
-use Rattle.texts.proofs.CutLaws.{Cut}
+use Rattle.texts.proofs.CutLaws.{Cut, Placed}
 use Rattle.texts.proofs.cut.Given as goal
 
 abbrev pub invariant-loop-i : goal.invariant-loop-i
@@ -11,4 +11,5 @@ invariant-loop-i g l = record {
   all_there : length l.spans ≡ g.row.N;
   in_text : l.from ≤ length l.s + 1;
   tokens : Cut l.s g.row.N l.spans l.i l.from;
+  places : Placed l.s g.row.N l.spans l.i l.from;
 }
