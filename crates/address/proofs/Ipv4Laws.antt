@@ -1,10 +1,11 @@
 -- Laws of reading IPv4: a part is the text up to the next dot, which is where `split_on` cuts; each part that is read leaves one fewer to come.
 -- Assumes nothing.
-use Prim.Native.Nat.{ℕ, suc, ◌+◌, ◌-◌, ◌*◌, ◌^◌, ◌≤◌, ◌<◌}
+use Prim.Native.Nat.{ℕ, zero, suc, ◌+◌, ◌-◌, ◌*◌, ◌^◌, ◌≤◌, ◌<◌}
 use mathlib.Core.Path.{◌≡◌, refl, sym, ap, ◌∙◌}
 use mathlib.Core.List.{List, [], ◌∷◌, map}
 use mathlib.Core.Bool.{false, ◌&&◌, cond, and-false}
 use lib.ListN.{length, take, drop}
+use lib.Seq.{take_all, length-take-le}
 use lib.Dec.{leb, eqb}
 use native.Mathlib.Nat.{pow-le-pow_right}
 use native.Mathlib.Numerals.{add-one}
@@ -12,10 +13,11 @@ use native.Mathlib.Omega.{arith}
 use borrow.Author.Tests.{le-leb, lt-leb, eq-eqb, ne_eqb}
 use Rattle.std.specs.declared.option.Option.{Option}
 use Rattle.std.specs.declared.option.Option.TheVariants.{Some, None}
-use Rattle.octets.specs.Split.{before, split_on, find_at}
+use Rattle.octets.specs.Split.{before, split_on, find_at, Found}
 use Rattle.octets.specs.Decimal.{read_number, on_number}
 use Rattle.octets.proofs.CaseLaws.{by_eq, by_lt}
-use Rattle.octets.proofs.SplitLaws.{split_some, part_is, part_dot, part_last}
+use Rattle.octets.proofs.SplitLaws.{before_here, before_more, found_first, take_before, split_some, part_dot, part_last}
+use Rattle.octets.proofs.DecimalLaws.{number_long}
 use Rattle.address.specs.declared.Address.{Address}
 use Rattle.address.specs.declared.Address.TheVariants.{V4}
 use Rattle.address.specs.declared.ipv4.Part.{Part}
@@ -26,26 +28,76 @@ use Rattle.address.specs.Private.{octet_to, octet_at}
 use Rattle.address.proofs.PartLaws.{next_below}
 
 -- ---- one part
--- Its text starts at i and ends at e, and y is what `read_number` answered on it.
-module _ (s : List ℕ) (i e : ℕ) (is : e ≡ find_at s 46 i) (y : Option ℕ) (r : y ≡ read_number (take (e - i) (drop i s))) where
-  number_is : (z : Option ℕ) → y ≡ z → octet_to e z ≡ octet_at s i
+before_take : (c n : ℕ) (s : List ℕ) → before c (take n s) ≡ take n (before c s)
+unfolding before
+before_take c zero s = refl
+before_take c (suc n) [] = refl
+before_take c (suc n) (b ∷ bs) =
+    by_eq b c _
+    (λ e. rw (before_here c b (take n bs) e, before_here c b bs e))
+    (λ e. rw (before_more c b (take n bs) e, before_more c b bs e, before_take c n bs))
+
+-- no number of four digits or more is an octet
+octet_long : (f : ℕ) (p : List ℕ) → 4 ≤ length p → octet_to f (read_number p) ≡ None
+unfolding octet_to on_number
+octet_long f p h = go (read_number p) refl
+  where
+    go : (z : Option ℕ) → read_number p ≡ z → octet_to f z ≡ None
+    go None q = refl
+    go (Some n) q = let l : 1000 ≤ n = number_long p h n q in rw (lt-leb n 255 (omega arith))
+
+-- Its text starts at i; `near` are four octets from there on, of which e are before a dot.
+module _ (s : List ℕ) (i : ℕ) (near : List ℕ) (are : near ≡ take 4 (drop i s)) (e : ℕ) (f : Found near 46 0 e) where
+  abbrev text : List ℕ
+  text = before 46 (drop i s)
+
+  near_text : before 46 near ≡ take 4 text
+  near_text = rw are (before_take 46 4 (drop i s))
+
+  digits_are : e ≡ length (take 4 text)
+  digits_are = found_first near 46 e f ∙ ap length near_text
+
+  pub part_long : 3 < e → None ≡ octet_at s i
   unfolding octet_at
-  number_is z q = rw (← is) (ap (octet_to e) (sym q ∙ r ∙ ap read_number (part_is s 46 i e is)))
+  part_long h =
+      let l : 4 ≤ length text =
+      by_lt (length text) 4 _
+      (λ k. let z : take 4 text ≡ text = take_all 4 text (omega arith) in absurd (omega (arith, digits_are, ap length z)))
+      (λ k. k)
+      in
+      sym (octet_long (find_at s 46 i) text l)
 
-  pub part_none : y ≡ None → None ≡ octet_at s i
-  unfolding octet_to on_number
-  part_none q = number_is None q
+  module _ (few : e ≤ 3) where
+    short : length text ≤ 4
+    short = by_lt 4 (length text) _ (λ l. absurd (omega (arith, digits_are, length-take-le 4 text (omega arith)))) (λ l. l)
 
-  module _ (n : ℕ) (q : y ≡ Some n) where
-    pub part_large : 255 < n → None ≡ octet_at s i
-    unfolding octet_to on_number
-    part_large h = rw (lt-leb n 255 h) at (number_is (Some n) q)
+    whole_text : take e near ≡ text
+    whole_text = rw (found_first near 46 e f) (take_before 46 near) ∙ near_text ∙ take_all 4 text short
 
-    pub part_number : n ≤ 255 → Some (record { value = n; end = e }) ≡ octet_at s i
-    unfolding octet_to on_number
-    part_number h = rw (le-leb n 255 h) at (number_is (Some n) q)
+    ends_there : i + e ≡ find_at s 46 i
+    unfolding find_at
+    ends_there = rw (digits_are, take_all 4 text short)
 
-pub ruleset part_read = (part_none, part_large, part_number)
+    -- y is what `read_number` answered on it
+    module _ (y : Option ℕ) (r : y ≡ read_number (take e near)) where
+      number_is : (z : Option ℕ) → y ≡ z → octet_to (i + e) z ≡ octet_at s i
+      unfolding octet_at
+      number_is z q = rw ends_there (ap (octet_to (find_at s 46 i)) (sym q ∙ r ∙ ap read_number whole_text))
+
+      pub part_none : y ≡ None → None ≡ octet_at s i
+      unfolding octet_to on_number
+      part_none q = number_is None q
+
+      module _ (n : ℕ) (q : y ≡ Some n) where
+        pub part_large : 255 < n → None ≡ octet_at s i
+        unfolding octet_to on_number
+        part_large h = rw (lt-leb n 255 h) at (number_is (Some n) q)
+
+        pub part_number : n ≤ 255 → Some (record { value = n; end = i + e }) ≡ octet_at s i
+        unfolding octet_to on_number
+        part_number h = rw (le-leb n 255 h) at (number_is (Some n) q)
+
+pub ruleset part_read = (part_long, part_none, part_large, part_number)
 
 octet_told : (f : ℕ) (p : Part) (z : Option ℕ) → octet_to f z ≡ Some p → (z ≡ Some p.value) × (p.value ≤ 255) × (p.end ≡ f)
 unfolding octet_to on_number

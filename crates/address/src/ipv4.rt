@@ -1,11 +1,12 @@
 // IPv4 addresses as text.
-ghost use Rattle.std.specs.Prelude.{◌≡◌, ◌≤◌, length};
+ghost use Rattle.std.specs.Prelude.{◌≡◌};
 ghost use Rattle.address.specs.Ipv4.{read_v4};
 ghost use Rattle.address.specs.Private.{octet_at};
 
 use crate::{Address, if_unicast};
 use octets::decimal::read_number;
 use octets::parts::find_from;
+use octets::spans::{after, up_to};
 
 // One number of an address: its value, and where its text ends.
 #[derive(Clone, Copy)]
@@ -16,16 +17,23 @@ struct Part {
 
 // The number, at most 255 and without leading zeros, whose text starts at i and ends at the next dot or the end.
 fn read_part(s: &[u8], i: usize) -> Option<Part>
-    requires { i ≤ length s.now }
     ensures { result ≡ octet_at s.now i }
 {
-    let end = find_from(s, b'.', i);
-    let n = read_number(&s[i..end])?;
+    // A number up to 255 has three digits at most, so what comes after four octets decides nothing.
+    let near = up_to(after(s, i), 4);
+    let digits = find_from(near, b'.', 0);
+    if 3 < digits {
+        return None;
+    }
+    let n = read_number(up_to(near, digits))?;
     if 255 < n {
         return None;
     }
     let value = n as u8;
-    Some(Part { value, end })
+    Some(Part {
+        value,
+        end: i + digits,
+    })
 }
 
 // The address that all of s stands for.
