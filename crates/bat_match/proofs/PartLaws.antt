@@ -28,12 +28,12 @@ module _ (s r : Bor (List ℕ)) where
     unfolding PartAt
     part_here h p = rw (le-leb (at + n) (length s.now) h) p
 
-  module _ (c : Result Span Refusal) where
+  module _ {E : Type 0} (c : Result Span E) where
     pub part_chosen : {p : Span} → c ≡ Ok p → PartAt s p.at p.len r → PartBy s c r
     unfolding PartBy
     part_chosen e q = rw e q
 
-    pub part_refused : {e : Refusal} → c ≡ Err e → PartAt s 0 0 r → PartBy s c r
+    pub part_refused : {e : E} → c ≡ Err e → PartAt s 0 0 r → PartBy s c r
     unfolding PartBy PartAt
     part_refused e q = rw e (rw (le-leb 0 (length s.now) zero-le) at q)
 

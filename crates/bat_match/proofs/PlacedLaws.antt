@@ -19,10 +19,10 @@ use Rattle.bat.specs.Values.{is_single}
 use Rattle.bat.specs.Elements.{PlacedElement, placed_element, placed_elements}
 use Rattle.bat.proofs.ElementsLaws as elements
 use Rattle.bat.proofs.WalkLaws.{front_nil, front_ended, front_within, front_length, front_whole, by_front}
-use Rattle.bat_match.specs.Matching.{PlacedCodec, placed_codec, placed_codecs, has_octets, common}
+use Rattle.bat_match.specs.Matching.{PlacedCodec, placed_codec, placed_codecs, codec_octets, has_octets, common}
 use Rattle.bat_match.specs.Private.{all_singles, codecs_at, CodecAt, FirstCommon, starting_before}
 use Rattle.bat_match.proofs.CodecLaws.{placed_ended, placed_unframed, placed_first, singles_unframed, singles_first, single_octets}
-use Rattle.bat_match.proofs.SearchLaws.{none_from, common_end, common_here, common_on}
+use Rattle.bat_match.proofs.SearchLaws.{none_from, none_left, common_end, common_here, common_on}
 
 -- one of them has the contents t
 pub any_placed : (t s : List ℕ) (d : ℕ) → all_singles s ≡ true → list_any (λ (p : PlacedElement). same t p.element.contents) (placed_elements d s) ≡ has_octets t (placed_codecs d s)
@@ -103,6 +103,42 @@ module _ (s : List ℕ) (place : ℕ) (xs : List PlacedElement) (l : LeftAt s pl
             })
         go unframed q = absurd (let w = elements.placed_unframed place (drop place s) q in let a = l.are in let z : ◌≡◌ {A = ℕ} 0 1 = cc in omega arith)
         go ended q = absurd (let w = elements.placed_ended place (drop place s) q in let a = l.are in let z : ◌≡◌ {A = ℕ} 0 1 = cc in omega arith)
+
+-- ---- the contents t among the codecs of a list
+-- xs are left of s, and t is among its codecs from there on if it is among those from `from` on
+pub record Seeking (t s : List ℕ) (from : ℕ) (xs : List PlacedElement) : Type 0 where
+  pub place : ℕ
+  pub left : LeftAt s place xs
+  pub same : has_octets t (codecs_at s place) ≡ has_octets t (codecs_at s from)
+
+module _ (t s : List ℕ) (from : ℕ) (xs : List PlacedElement) where
+  pub seek_start : all_singles (drop from s) ≡ true → xs ≡ placed_elements from (drop from s) → Seeking t s from xs
+  seek_start singles are = record { place = from; left = record { are = are; singles = singles }; same = refl }
+
+  module _ (k : Seeking t s from xs) where
+    pub seek_end : xs ≡ [] → false ≡ has_octets t (codecs_at s from)
+    unfolding has_octets
+    seek_end h = rw (none_left s k.place (nothing_left s k.place xs k.left h)) at k.same
+
+    module _ (p : PlacedElement) (ys : List PlacedElement) (next : xs ≡ p ∷ ys) (u : List ℕ) (is : u ≡ p.element.contents) (b : Bool) (test : b ≡ same t u) where
+      at_hand : Step s k.place p ys
+      at_hand = step_of s k.place xs k.left p ys next
+
+      met : same t (codec_octets at_hand.codec.codec) ≡ b
+      met = sym (test ∙ ap (same t) (is ∙ at_hand.codec.reads))
+
+      pub seek_here : b ≡ true → true ≡ has_octets t (codecs_at s from)
+      unfolding has_octets
+      seek_here h = rw (at_hand.codec.are, met, h) at k.same
+
+      pub seek_on : b ≡ false → Seeking t s from ys
+      unfolding has_octets
+      seek_on h =
+          record {
+            place = k.place + p.length;
+            left = record { are = at_hand.left; singles = at_hand.codec.rest };
+            same = rw (at_hand.codec.are, met, h) at k.same;
+          }
 
 -- ---- the first codec in both lists
 -- xs are left of s, whose codecs from there on have as many in os as those from `from` on

@@ -41,7 +41,7 @@ unfoldable pub PartAt : Bor (List ℕ) → ℕ → ℕ → Bor (List ℕ) → Ty
 PartAt s at n r = PartOf s (cond (leb (at + n) (length s.now)) at 0) (cond (leb (at + n) (length s.now)) n 0) r
 
 -- r is the part of s that a choice names; for a refusal, or if s has no such part, the empty part at the front of s
-unfoldable pub PartBy : Bor (List ℕ) → Result Span Refusal → Bor (List ℕ) → Type 0
+unfoldable pub PartBy : {E : Type 0} → Bor (List ℕ) → Result Span E → Bor (List ℕ) → Type 0
 PartBy s (Ok p) r = PartAt s p.at p.len r
 PartBy s (Err e) r = PartOf s 0 0 r
 

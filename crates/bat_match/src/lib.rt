@@ -62,8 +62,8 @@ fn part_at(s: &[u8], at: usize, len: usize) -> &[u8]
     &s[at..end]
 }
 
-// The part of s that a choice names; for a refusal, or if s has no such part, the empty part at its front.
-pub fn part_by(s: &[u8], choice: Result<Span, Refusal>) -> &[u8]
+// The part of s that a choice names; for a refusal, whatever it is, or if s has no such part, the empty part at its front.
+pub fn part_by<E: Copy>(s: &[u8], choice: Result<Span, E>) -> &[u8]
     ensures { PartBy s.entry choice result }
 {
     match choice {

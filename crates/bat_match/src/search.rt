@@ -7,19 +7,25 @@ use crate::list::FramedList;
 use octets::words::equals;
 use octets::{Refusal, Span};
 
-// The place of the first codec of the leading list that the other list also has, if there is one.
+// The place of the first codec of the leading list that the other list also has, if there is one: a walk over both lists, left at
+// the first codec that is in both.
 pub(crate) fn first_common(leading: FramedList, other: FramedList) -> Result<Span, Refusal>
     ensures { FirstCommon leading.entry.string.now leading.entry.from (codecs_at other.entry.string.now other.entry.from) result }
 {
-    for c in leading.codecs() {
-        if has_codec(other, c.contents()) {
-            return Ok(Span {
-                at: c.at,
-                len: c.length,
-            });
+    let mut found = Err(Refusal::NoCommonCodec);
+    'search: for c in leading.codecs() {
+        let contents = c.contents();
+        for d in other.codecs() {
+            if equals(contents, d.contents()) {
+                found = Ok(Span {
+                    at: c.at,
+                    len: c.length,
+                });
+                break 'search;
+            }
         }
     }
-    Err(Refusal::NoCommonCodec)
+    found
 }
 
 // Whether one of the codecs of a list has these contents.
