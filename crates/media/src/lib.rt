@@ -23,6 +23,9 @@ use texts::{cut, inner, skip};
 // The most octets of rtpmap and fmtp lines together, without their ends.
 pub const MOST_ATTRIBUTES: usize = 256;
 
+// No media line has port 0.
+const LEAST_PORT: u16 = 1;
+
 // At most three texts of a source: the first `count` spans, or all if it counts more than there are.
 #[derive(Clone, Copy)]
 pub struct Texts {
@@ -112,7 +115,7 @@ fn media_text(m: &[u8], v: Span, t: &[u8]) -> Option<Stream>
     let [media, port, transport, payload] = cut::<4>(t)?;
     let p = read_number(text(t, port))?;
     let n = read_number(text(t, payload))?;
-    if p < 1 {
+    if p < LEAST_PORT {
         return None;
     }
     if 127 < n {
