@@ -17,7 +17,7 @@ fn own_leads(word: &[u8]) -> Option<bool> {
 fn push_match(offered: &[u8], own: &[u8], own_leads: bool, room: &mut [u8], out: &mut Cursor<'_>) {
     let m = bat_match::match_lists(offered, own, own_leads, room);
     match m.choice {
-        Err(e) => push_refused(e, out),
+        Err(e) => push_refused(e.number(), out),
         Ok(p) => {
             out.push_number_then(p.at as u64, b'/');
             out.push_number_then(p.len as u64, b' ');

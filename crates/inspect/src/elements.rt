@@ -116,7 +116,7 @@ fn push_taken(data: &[u8], taken: Taken, pass: bool, out: &mut Cursor<'_>) {
 fn push_data(data: &[u8], entries: u16, pass: bool, out: &mut Cursor<'_>) {
     match bat_read::judge_data(data, entries as usize, pass) {
         Ok(taken) => push_taken(data, taken, pass, out),
-        Err(e) => push_refused(e, out),
+        Err(e) => push_refused(e.number(), out),
     }
 }
 

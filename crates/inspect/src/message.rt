@@ -78,7 +78,7 @@ fn push_described(m: &[u8], kind: MessageType, d: Description, out: &mut Cursor<
 // Appends the answer to the message m.
 fn push_message(m: &[u8], out: &mut Cursor<'_>) {
     match ipbcp::read(m) {
-        Err(e) => push_refused(e, out),
+        Err(e) => push_refused(e.number(), out),
         Ok(Message::Typed { version, kind }) => push_head(version, kind, out),
         Ok(Message::Described { kind, description }) => {
             push_described(m, kind, description, out);

@@ -18,7 +18,7 @@ pub(crate) fn named(name: &[u8], s: &[u8], out: &mut Cursor<'_>) {
 pub(crate) fn written(written: Result<usize, Refusal>, room: &[u8], out: &mut Cursor<'_>) {
     match written {
         Ok(n) => push_octets(spans::up_to(room, n), out),
-        Err(e) => push_refused(e, out),
+        Err(e) => push_refused(e.number(), out),
     }
 }
 

@@ -35,7 +35,7 @@ fn push_data(data: &[u8], compatibility: u16, room: &mut [u8], out: &mut Cursor<
     let f = match only_element(data) {
         Ok(f) => f,
         Err(e) => {
-            push_refused(e, out);
+            push_refused(e.number(), out);
             return;
         }
     };

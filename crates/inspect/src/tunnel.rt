@@ -8,7 +8,7 @@ use octets::{parts, spans};
 // Appends the answer to a packet. A reply is the two octets at the front of room.
 fn push_packet(packet: &[u8], room: &mut [u8], out: &mut Cursor<'_>) {
     match bctp::open(packet, room) {
-        Err(e) => push_refused(e, out),
+        Err(e) => push_refused(e.number(), out),
         Ok(Packet::Notice) => out.push(b"notice"),
         Ok(Packet::Reply) => print::named(b"reply ", spans::up_to(room, 2), out),
         Ok(Packet::Message) => print::named(b"message ", spans::after(packet, 2), out),

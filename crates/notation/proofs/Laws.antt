@@ -12,12 +12,10 @@ use native.Mathlib.Omega.{arith}
 use borrow.Author.Tests.{lt-ltb, le-ltb, eq-eqb, ne_eqb, le-leb, lt-leb, leb-true, eqb-true}
 use Rattle.std.specs.declared.option.Option.{Option}
 use Rattle.std.specs.declared.option.Option.TheVariants.{Some, None}
-use Rattle.octets.specs.declared.Refusal.{Refusal}
 use Rattle.octets.specs.declared.Span.{Span}
 use Rattle.octets.specs.Append.{Appends, number_text}
 use Rattle.octets.specs.Decimal.{is_digit, all_digits, value_from, shortest, number_from, read_number}
 use Rattle.octets.specs.Hex.{hex_text}
-use Rattle.octets.specs.Refusals.{refusal_number}
 use Rattle.octets.specs.Spans.{text_of}
 use Rattle.octets.specs.Words.{digit_run}
 use Rattle.octets.specs.Text.{ascii}
@@ -50,10 +48,9 @@ unfolding shown text_shown
 span_shown t m l f sp at r e a = rw (← e) a
 
 -- a refusal
-pub refused_shown_lem : (e : Refusal) (n at k r : ℕ) (l g f : List ℕ) → n ≡ refusal_number e → Appends g k (number_text n) r f
-    → Appends l at (ascii "refused-") k g → Appends l at (refused_shown e) r f
+pub refused_shown_lem : (n at k r : ℕ) (l g f : List ℕ) → Appends g k (number_text n) r f → Appends l at (ascii "refused-") k g → Appends l at (refused_shown n) r f
 unfolding refused_shown
-refused_shown_lem e n at k r l g f z q p = rw (← z) (append_then l g f _ (number_text n) at k r q p)
+refused_shown_lem n at k r l g f q p = append_then l g f _ (number_text n) at k r q p
 
 -- ---- texts
 texts_append : (xs ys : List (List ℕ)) → texts_after (xs ++ ys) ≡ texts_after xs ++ texts_after ys

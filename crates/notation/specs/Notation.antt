@@ -1,11 +1,9 @@
 -- How the programs show octets, texts and refusals, and how they read octets and the length of a buffer. Octets are hexadecimal
 -- digits in upper case.
 use Rattle.std.specs.Prelude.{ℕ, ◌+◌, ◌*◌, ◌/◌, min, ◌≡◌, List, [], ◌∷◌, ◌++◌, Bool, ◌&&◌, cond, length, eqb, leb, Option, Some, None}
-use Rattle.octets.specs.declared.Refusal.{Refusal}
 use Rattle.octets.specs.Append.{appended, number_text}
 use Rattle.octets.specs.Decimal.{all_digits, value_from, shortest}
 use Rattle.octets.specs.Hex.{is_hex_digit, hex_value, is_hex, hex_text}
-use Rattle.octets.specs.Refusals.{refusal_number}
 use Rattle.octets.specs.Text.{ascii, char}
 
 -- octets; `-` if there are none
@@ -32,9 +30,9 @@ texts_shown [] = ascii "-"
 texts_shown (t ∷ ts) = text_shown t ++ texts_after ts
 
 -- ---- a refusal
--- document 01's number of it
-unfoldable pub refused_shown : Refusal → List ℕ
-refused_shown e = ascii "refused-" ++ number_text (refusal_number e)
+-- document 01's number n
+unfoldable pub refused_shown : ℕ → List ℕ
+refused_shown n = ascii "refused-" ++ number_text n
 
 -- ---- octets in pairs of digits
 -- the octets of the pairs before the first that is not two digits

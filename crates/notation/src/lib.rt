@@ -9,12 +9,12 @@ ghost use Rattle.notation.specs.Notation.{octets_shown, text_shown, text_after, 
 ghost use Rattle.notation.specs.Private.{large_in, pair_in, shown};
 
 use media::Texts;
+use octets::Span;
 use octets::append::Cursor;
 use octets::decimal::read_number;
 use octets::hex::{digit, push_hex};
 use octets::spans::text;
 use octets::words::digit_run;
-use octets::{Refusal, Span};
 
 // Appends octets as digits, or the word if there are none.
 fn push_shown(word: &[u8], s: &[u8], out: &mut Cursor<'_>)
@@ -71,12 +71,12 @@ pub fn push_texts(m: &[u8], x: Texts, out: &mut Cursor<'_>)
     push_rest(m, &spans[1..], out);
 }
 
-// Appends a refusal.
-pub fn push_refused(e: Refusal, out: &mut Cursor<'_>)
-    ensures { Pushes out.old out.new (refused_shown e) }
+// Appends a refusal by document 01's number n.
+pub fn push_refused(n: u8, out: &mut Cursor<'_>)
+    ensures { Pushes out.old out.new (refused_shown n) }
 {
     out.push(b"refused-");
-    out.push_number(e.number() as u64);
+    out.push_number(n as u64);
 }
 
 // The octet that two digits stand for.

@@ -5,6 +5,7 @@ use Rattle.std.proofs.Math.Option.{Option, none, some}
 use Rattle.octets.specs.declared.Refusal.{Refusal}
 use Rattle.octets.specs.declared.Refusal.TheVariants.{BadConfiguration}
 use Rattle.octets.specs.Append.{number_text}
+use Rattle.octets.specs.Refusals.{refusal_number}
 use Rattle.octets.specs.Text.{ascii, blank, lf}
 use Rattle.notation.specs.Notation.{refused_shown}
 use Rattle.book.specs.declared.State.{State}
@@ -18,7 +19,7 @@ header_line = ascii "n event state notice dropped written" ++ (lf ∷ [])
 
 -- what is printed for a configuration that is refused
 abbrev pub refused_line : List ℕ
-refused_line = refused_shown BadConfiguration ++ (lf ∷ [])
+refused_line = refused_shown (refusal_number BadConfiguration) ++ (lf ∷ [])
 
 -- ---- the line of an event
 -- the kind of an event, or that the line is no event
@@ -31,16 +32,21 @@ unfoldable pub number_and_kind : ℕ → Option Event → List ℕ
 number_and_kind n e = number_text n ++ (blank ∷ kind_field e)
 
 -- the last three fields: `notice`, `dropped` and `written`
-abbrev pub refusal_text : Refusal → List ℕ
-refusal_text e = refused_shown e ++ ascii " no 0"
+abbrev pub refusal_text : ℕ → List ℕ
+refusal_text n = refused_shown n ++ ascii " no 0"
 
 abbrev pub done_text : Done → List ℕ
 done_text d = notice_word d.notice ++ (blank ∷ (dropped_word d.dropped ++ (blank ∷ number_text d.written)))
 
--- the state after the event, and those fields; a refusal leaves the state s
-unfoldable pub reply_text : State → Result Done Refusal → List ℕ
-reply_text s (Ok d) = state_word d.state ++ (blank ∷ done_text d)
-reply_text s (Err e) = state_word s ++ (blank ∷ refusal_text e)
+-- a reply, with the number that refuses in place of the refusal
+unfoldable pub numbered : Result Done Refusal → Result Done ℕ
+numbered (Ok d) = Ok d
+numbered (Err e) = Err (refusal_number e)
 
-unfoldable pub event_text : ℕ → Option Event → State → Result Done Refusal → List ℕ
+-- the state after the event, and those fields; a refusal leaves the state s
+unfoldable pub reply_text : State → Result Done ℕ → List ℕ
+reply_text s (Ok d) = state_word d.state ++ (blank ∷ done_text d)
+reply_text s (Err n) = state_word s ++ (blank ∷ refusal_text n)
+
+unfoldable pub event_text : ℕ → Option Event → State → Result Done ℕ → List ℕ
 event_text n e s r = number_and_kind n e ++ (blank ∷ reply_text s r)

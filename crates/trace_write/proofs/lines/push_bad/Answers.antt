@@ -6,4 +6,4 @@ use Rattle.trace_write.proofs.lines.push_bad.Goals as goal
 
 pub returns : goal.returns
 unfolding kind_field number_and_kind event_text
-returns c = rw append_assoc c.push_line.ensures
+returns c = rw append_assoc (rw c.number.ensures at c.push_line.ensures)
