@@ -17,9 +17,9 @@ use octets::Refusal;
 
 impl Endpoint {
     // Writes the Request, and opens it.
-    fn offer(self, request: Request, out: &mut [u8]) -> Answer
+    fn offer(&self, request: Request, out: &mut [u8]) -> Answer
         requires { Offerable request out.old }
-        ensures { Gave self (command_verdict (configuration_by self.config) (some (request_by request))) out.old out.new result }
+        ensures { Gave self.now (command_verdict (configuration_by self.now.config) (some (request_by request))) out.old out.new result }
     {
         let body = Body::Request(request.stream);
         match write_message(body, self.config.own, &request.text, out) {
@@ -29,8 +29,8 @@ impl Endpoint {
     }
 
     // A command for a Request: a set-up, which suits idle, or a change, which suits up.
-    fn command(self, suited: State, entry: u16, payload: u16, ptime: u16, out: &mut [u8]) -> Answer
-        ensures { InRoom self (in_state self.state suited (command_verdict (configuration_by self.config) (commanded (configuration_by self.config) entry payload ptime))) out.old out.new result }
+    fn command(&self, suited: State, entry: u16, payload: u16, ptime: u16, out: &mut [u8]) -> Answer
+        ensures { InRoom self.now (in_state self.now.state suited (command_verdict (configuration_by self.now.config) (commanded (configuration_by self.now.config) entry payload ptime))) out.old out.new result }
     {
         if out.len() < LEAST_ROOM {
             return self.refused(Refusal::BufferTooShort);

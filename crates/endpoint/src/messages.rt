@@ -20,9 +20,9 @@ use octets::Refusal;
 
 impl Endpoint {
     // Answers with a Confused.
-    fn confuse(self, out: &mut [u8]) -> Answer
+    fn confuse(&self, out: &mut [u8]) -> Answer
         requires { least_room ≤ length out.old }
-        ensures { Gave self (answer_confused (configuration_by self.config)) out.old out.new result }
+        ensures { Gave self.now (answer_confused (configuration_by self.now.config)) out.old out.new result }
     {
         match write_message(Body::Confused, self.config.own, b"", out) {
             Ok(n) => self.request_confused(n),
@@ -31,9 +31,9 @@ impl Endpoint {
     }
 
     // Answers with a Rejected.
-    fn reject(self, out: &mut [u8]) -> Answer
+    fn reject(&self, out: &mut [u8]) -> Answer
         requires { least_room ≤ length out.old }
-        ensures { Gave self (answer_rejected (configuration_by self.config)) out.old out.new result }
+        ensures { Gave self.now (answer_rejected (configuration_by self.now.config)) out.old out.new result }
     {
         match write_message(Body::Rejected, self.config.own, b"", out) {
             Ok(n) => self.request_wrong(n),
@@ -42,9 +42,9 @@ impl Endpoint {
     }
 
     // Answers a right Request, which says d, with an Accepted: own port, the packet time moved into range, the rest copied from m.
-    fn accept(self, d: Description, m: &[u8], out: &mut [u8]) -> Answer
+    fn accept(&self, d: Description, m: &[u8], out: &mut [u8]) -> Answer
         requires { Answerable m.now d out.old }
-        ensures { Gave self (answer_accepted (configuration_by self.config) (named_by m.now d)) out.old out.new result }
+        ensures { Gave self.now (answer_accepted (configuration_by self.now.config) (named_by m.now d)) out.old out.new result }
     {
         let ptime = nearest_time(self.config, d.stream.ptime);
         let granted = Description {
@@ -59,9 +59,9 @@ impl Endpoint {
     }
 
     // A Request of another version.
-    fn hear_other(self, out: &mut [u8]) -> Answer
+    fn hear_other(&self, out: &mut [u8]) -> Answer
         requires { least_room ≤ length out.old }
-        ensures { Heeds self hears.other_version_heard out.old out.new result }
+        ensures { Heeds self.now hears.other_version_heard out.old out.new result }
     {
         if ignores(self.state, self.side) {
             return self.discarded();
@@ -70,10 +70,10 @@ impl Endpoint {
     }
 
     // A Request, and what it says if it can be read to its end, with its texts in m.
-    fn hear_request(self, description: Option<Description>, m: &[u8], out: &mut [u8]) -> Answer
+    fn hear_request(&self, description: Option<Description>, m: &[u8], out: &mut [u8]) -> Answer
         requires room { least_room ≤ length out.old }
         requires readable { IfSome description (λ d. Readable m.now d) }
-        ensures { Heeds self (hears.request_heard (named_if m.now description)) out.old out.new result }
+        ensures { Heeds self.now (hears.request_heard (named_if m.now description)) out.old out.new result }
     {
         if ignores(self.state, self.side) {
             return self.discarded();
@@ -85,9 +85,9 @@ impl Endpoint {
     }
 
     // An Accepted, and what it says if it is of version 1 and can be read to its end, with its texts in m.
-    fn hear_accepted(self, description: Option<Description>, m: &[u8]) -> Answer
+    fn hear_accepted(&self, description: Option<Description>, m: &[u8]) -> Answer
         requires { IfSome description (λ d. Readable m.now d) }
-        ensures { Silent self (message_verdict (configuration_by self.config) (book_of self) (hears.accepted_heard (named_if m.now description))) result }
+        ensures { Silent self.now (message_verdict (configuration_by self.now.config) (book_of self.now) (hears.accepted_heard (named_if m.now description))) result }
     {
         if !awaits(self.state) {
             return self.discarded();

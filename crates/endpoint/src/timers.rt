@@ -11,8 +11,8 @@ use octets::Refusal;
 
 impl Endpoint {
     // A timer has expired, which is awaited or not.
-    fn expire(self, awaited: bool, out: &[u8]) -> Answer
-        ensures { InRoom self (cond awaited Verdict.failed Verdict.discarded) out.now out.now result }
+    fn expire(&self, awaited: bool, out: &[u8]) -> Answer
+        ensures { InRoom self.now (cond awaited Verdict.failed Verdict.discarded) out.now out.now result }
     {
         if out.len() < LEAST_ROOM {
             return self.refused(Refusal::BufferTooShort);

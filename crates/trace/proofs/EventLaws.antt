@@ -18,6 +18,7 @@ use Rattle.std.specs.Bool.{then_some}
 use Rattle.octets.specs.declared.Refusal.{Refusal}
 use Rattle.octets.specs.declared.Refusal.TheVariants.{BadLine}
 use Rattle.octets.specs.declared.append.Cursor.{Cursor}
+use Rattle.octets.specs.Refusals.{refusal_number}
 use Rattle.octets.specs.Append.{Pushes}
 use Rattle.octets.proofs.CaseLaws.{by_lt}
 use Rattle.octets.specs.Chain.{when}
@@ -46,7 +47,7 @@ use Rattle.trace_read.specs.Events.{line_event, message_by}
 use Rattle.trace_read.specs.Lending.{lent_in}
 use Rattle.trace_read.specs.Meaning.{asked_by, Asks, lent_by}
 use Rattle.trace_write.specs.Words.{kind_word}
-use Rattle.trace_write.specs.Lines.{kind_field, number_and_kind, event_text}
+use Rattle.trace_write.specs.Lines.{kind_field, number_and_kind, numbered, event_text}
 use Rattle.trace_write.specs.Detail.{detail_text}
 use Rattle.endpoint.specs.declared.Done as reply
 use Rattle.endpoint.specs.Step.{book_by, book_of, reply_for, out_for, Gave, Did, event_by}
@@ -130,9 +131,9 @@ module _ (self : Endpoint) (event : value.Event) (m room room' : List ℕ) (k f 
 
 -- ---- a line that is no event
 pub passed_is : (self : Endpoint) (k g f : Cursor) (n : ℕ) (d : Bool)
-    → Pushes g f (detail_if d [] (settled (book_of self)) ++ (lf ∷ [])) → Pushes k g (event_text n none self.state (Err BadLine))
+    → Pushes g f (detail_if d [] (settled (book_of self)) ++ (lf ∷ [])) → Pushes k g (event_text n none self.state (Err (refusal_number BadLine)))
     → Passes d self n k f (Running self n)
-unfolding verdict_effect verdict_on trace_by inside_by reply_octets event_line
+unfolding verdict_effect verdict_on trace_by inside_by reply_octets event_line numbered
 passed_is self k g f n d b a room w =
     record {
       session = refl;
@@ -206,7 +207,7 @@ module _ (self : Endpoint) (number : ℕ) (line s f room : List ℕ) (k c : Curs
 
 -- the line of an event whose answer is given
 pub answer_line_lem : (event : value.Event) (state : State) (r : Answer) (room o : List ℕ) (k g f : Cursor) (n w : ℕ) (d : Bool)
-    → Pushes g f (detail_if d o (settled (book_of r.endpoint)) ++ (lf ∷ [])) → Pushes k g (event_text n (some (event_by event [])) state r.reply)
+    → Pushes g f (detail_if d o (settled (book_of r.endpoint)) ++ (lf ∷ [])) → Pushes k g (event_text n (some (event_by event [])) state (numbered r.reply))
     → o ≡ take w room → w ≡ written_by r.reply → Pushes k f (answer_line d n event state r room)
 unfolding event_line
 answer_line_lem event state r room o k g f n w d b a p q = rw (← q, ← p) (pushes_then a b)

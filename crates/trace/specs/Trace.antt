@@ -18,7 +18,7 @@ use Rattle.endpoint.specs.Step.{reply_for, out_for}
 use Rattle.trace_read.specs.Events.{line_event}
 use Rattle.trace_read.specs.Configuring.{general_in, is_codec_line, codec_in}
 use Rattle.trace_read.specs.Lending.{lent_in}
-use Rattle.trace_write.specs.Lines.{header_line, refused_line, event_text}
+use Rattle.trace_write.specs.Lines.{header_line, refused_line, numbered, event_text}
 use Rattle.trace_write.specs.Detail.{detail_text}
 
 -- what the lines so far have left
@@ -63,7 +63,7 @@ detail_if detailed o force = cond detailed (detail_text o force) []
 
 -- the line of event n, with its LF; s is the state before the event
 unfoldable pub event_line : Bool → ℕ → Option Event → State → Result Done Refusal → List ℕ → Option Bearer → List ℕ
-event_line detailed n e s r o force = event_text n e s r ++ (detail_if detailed o force ++ (lf ∷ []))
+event_line detailed n e s r o force = event_text n e s (numbered r) ++ (detail_if detailed o force ++ (lf ∷ []))
 
 -- what the verdict v on event n does to the book k; the event gets the first w octets of room
 unfoldable pub verdict_effect : Bool → Configuration → Book → ℕ → Option Event → List ℕ → ℕ → Verdict → Effect

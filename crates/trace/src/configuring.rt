@@ -80,7 +80,7 @@ fn begin(
         room.new out.old out.new result }
 {
     push_header(out);
-    run(fresh(config), 0, detailed, line, whole, room, out)
+    run(&fresh(config), 0, detailed, line, whole, room, out)
 }
 
 // A line after the `G` line: a `K` line, or the first event.

@@ -24,7 +24,7 @@ use trace_read::events::read_event;
 use trace_read::lend::lend;
 use trace_read::{Asked, MOST_LINE};
 use trace_write::detail::push_detail;
-use trace_write::lines::{push_bad, push_event};
+use trace_write::lines::{numbered, push_bad, push_event};
 
 // Room for the octets of the longest message that a line can hold.
 const MOST_MESSAGE: usize = MOST_LINE / 2;
@@ -48,9 +48,9 @@ fn written_by(reply: Result<Done, Refusal>) -> usize
 }
 
 // Gives an event to the endpoint, with the first w octets of room. Only `Event::Message` looks at the message m.
-fn give(endpoint: Endpoint, event: Event, m: &[u8], room: &mut [u8], w: usize) -> Answer
+fn give(endpoint: &Endpoint, event: Event, m: &[u8], room: &mut [u8], w: usize) -> Answer
     requires { w ≤ length room.old }
-    ensures { DidFront endpoint (event_by event m.now) w room.old room.new result }
+    ensures { DidFront endpoint.now (event_by event m.now) w room.old room.new result }
 {
     endpoint.handle(event, m, &mut room[0..w])
 }
@@ -74,13 +74,13 @@ fn push_end(detailed: bool, s: &[u8], endpoint: &Endpoint, out: &mut Cursor<'_>)
 }
 
 // A line that is no event; its number is n.
-fn pass(endpoint: Endpoint, n: u64, detailed: bool, out: &mut Cursor<'_>) -> Session
-    ensures { Passes detailed endpoint n out.old out.new result }
+fn pass(endpoint: &Endpoint, n: u64, detailed: bool, out: &mut Cursor<'_>) -> Session
+    ensures { Passes detailed endpoint.now n out.old out.new result }
 {
     push_bad(n, endpoint.state, out);
-    push_end(detailed, b"", &endpoint, out);
+    push_end(detailed, b"", endpoint, out);
     Session::Running {
-        endpoint,
+        endpoint: *endpoint,
         number: n,
     }
 }
@@ -97,14 +97,14 @@ fn push_answer(
 )
     ensures { Pushes out.old out.new (answer_line detailed n event state answer.now room.now) }
 {
-    push_event(n, event, state, answer.reply, out);
+    push_event(n, event, state, numbered(answer.reply), out);
     let written = up_to(room, written_by(answer.reply));
     push_end(detailed, written, &answer.endpoint, out);
 }
 
 // Event n, with as many octets of room as are wanted, or all of them.
 fn handle(
-    endpoint: Endpoint,
+    endpoint: &Endpoint,
     n: u64,
     detailed: bool,
     event: Event,
@@ -113,8 +113,8 @@ fn handle(
     wanted: usize,
     out: &mut Cursor<'_>,
 ) -> Session
-    ensures { Does (config_inside endpoint.config)
-        (effect_on detailed endpoint n (some (event_by event m.now)) room.old wanted)
+    ensures { Does (config_inside endpoint.now.config)
+        (effect_on detailed endpoint.now n (some (event_by event m.now)) room.old wanted)
         room.new out.old out.new result }
 {
     let state = endpoint.state;
@@ -164,7 +164,7 @@ fn next_number(n: u64) -> u64
 
 // A line after the configuration; `number` is that of the last event.
 pub(crate) fn run(
-    endpoint: Endpoint,
+    endpoint: &Endpoint,
     number: u64,
     detailed: bool,
     line: &[u8],
@@ -172,8 +172,8 @@ pub(crate) fn run(
     room: &mut [u8],
     out: &mut Cursor<'_>,
 ) -> Session
-    ensures { Does (config_inside endpoint.config)
-        (event_effect detailed (configuration_by endpoint.config) (book_of endpoint) number (line_of line.now whole) room.old)
+    ensures { Does (config_inside endpoint.now.config)
+        (event_effect detailed (configuration_by endpoint.now.config) (book_of endpoint.now) number (line_of line.now whole) room.old)
         room.new out.old out.new result }
 {
     let lent = lend(detailed, line);

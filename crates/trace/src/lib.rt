@@ -50,11 +50,11 @@ impl Session {
             (line_effect detailed (trace_by self) (line_of line.now whole) room.old)
             room.new out.old out.new result }
     {
-        match self {
+        match &self {
             Session::Start => open(line, whole, out),
-            Session::Configuring(config) => configure(config, detailed, line, whole, room, out),
+            Session::Configuring(config) => configure(*config, detailed, line, whole, room, out),
             Session::Running { endpoint, number } => {
-                run(endpoint, number, detailed, line, whole, room, out)
+                run(endpoint, *number, detailed, line, whole, room, out)
             }
             Session::Stopped => Session::Stopped,
         }
