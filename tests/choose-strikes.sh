@@ -42,12 +42,13 @@ cases > "$work/cases"
 use Prim.Native.Nat.{ℕ, suc}
 use mathlib.Core.Path.{◌≡◌, refl}
 use mathlib.Core.List.{List, [], ◌∷◌, map}
+use Rattle.octets.specs.declared.Refusal.TheVariants.{WrongState}
 use Rattle.book.specs.Book.{Verdict, refused, discarded, opened, agreed, failed, released, request_confused, request_right, request_wrong}
 use Rattle.book.specs.Strike.{kept_of, sheet_of}
 
--- the verdicts; what stands in bearers, Requests and octets does not matter here
+-- the verdicts; what stands in refusals, bearers, Requests and octets does not matter here
 refusal : Verdict ℕ ℕ
-refusal = refused 0
+refusal = refused WrongState
 
 discard : Verdict ℕ ℕ
 discard = discarded
