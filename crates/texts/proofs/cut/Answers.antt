@@ -29,16 +29,16 @@ pub loop-i-init : goal.loop-i-init
 loop-i-init g c = record {
   all_there = length-replicate _ _;
   in_text = omega arith;
-  tokens = cut_first c.args.s.now g.row.N (replicate g.row.N (record { at = 0; len = 0 })) (omega arith);
   places = placed_first c.args.s.now g.row.N (replicate g.row.N (record { at = 0; len = 0 })) (omega arith);
+  tokens = cut_first c.args.s.now g.row.N (replicate g.row.N (record { at = 0; len = 0 })) (omega arith);
 }
 
 pub loop-i-preserved : goal.loop-i-preserved
 loop-i-preserved g c = record {
   all_there = length-set _ _ _ ∙ c.loop-i.invariant.all_there;
   in_text = omega arith;
-  tokens = cut_next _ _ _ _ _ c.find_from-e.ensures _ c.loop-i.invariant.tokens c.loop-i.invariant.all_there c.if-e-from.false c.if-is_last-ends.false c.loop-i-test.true;
   places = placed_next _ _ _ _ _ c.find_from-e.ensures _ c.loop-i.invariant.places c.loop-i.invariant.all_there c.if-is_last-ends.false c.loop-i-test.true;
+  tokens = cut_next _ _ _ _ _ c.find_from-e.ensures _ c.loop-i.invariant.tokens c.loop-i.invariant.all_there c.if-e-from.false c.if-is_last-ends.false c.loop-i-test.true;
 }
 
 pub returns : goal.returns

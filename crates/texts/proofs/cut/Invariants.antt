@@ -10,6 +10,6 @@ abbrev pub invariant-loop-i : goal.invariant-loop-i
 invariant-loop-i g l = record {
   all_there : length l.spans ≡ g.row.N;
   in_text : l.from ≤ length l.s + 1;
-  tokens : Cut l.s g.row.N l.spans l.i l.from;
   places : Placed l.s g.row.N l.spans l.i l.from;
+  tokens : Cut l.s g.row.N l.spans l.i l.from;
 }
