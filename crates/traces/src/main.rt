@@ -31,7 +31,8 @@ struct Buffers<'a> {
     out: &'a mut [u8],
 }
 
-// One trace.
+// One trace. Not inlined, so that no more of the stack is used before a trace runs.
+#[inline(never)]
 fn run_trace<R: Read, W: Write, E: Write>(
     input: &mut R,
     to: &mut W,
