@@ -16,7 +16,7 @@ use Rattle.std.specs.declared.option.Option.TheVariants.{Some, None}
 use Rattle.octets.specs.Split.{before, split_on, find_at, Found}
 use Rattle.octets.specs.Decimal.{read_number, on_number}
 use Rattle.octets.proofs.CaseLaws.{by_eq, by_lt}
-use Rattle.octets.proofs.SplitLaws.{before_here, before_more, found_first, take_before, split_some, part_dot, part_last}
+use Rattle.octets.proofs.SplitLaws.{before_here, before_more, found_first, take_before, split_some, part_is, part_dot, part_last}
 use Rattle.octets.proofs.DecimalLaws.{number_long}
 use Rattle.address.specs.declared.Address.{Address}
 use Rattle.address.specs.declared.Address.TheVariants.{V4}
@@ -28,6 +28,28 @@ use Rattle.address.specs.Private.{octet_to, octet_at}
 use Rattle.address.proofs.PartLaws.{next_below}
 
 -- ---- one part
+-- Its text starts at i and ends at e, and y is what `read_number` answered on it.
+module _ (s : List ℕ) (i e : ℕ) (is : e ≡ find_at s 46 i) (y : Option ℕ) (r : y ≡ read_number (take (e - i) (drop i s))) where
+  number_is : (z : Option ℕ) → y ≡ z → octet_to e z ≡ octet_at s i
+  unfolding octet_at
+  number_is z q = rw (← is) (ap (octet_to e) (sym q ∙ r ∙ ap read_number (part_is s 46 i e is)))
+
+  pub part_none : y ≡ None → None ≡ octet_at s i
+  unfolding octet_to on_number
+  part_none q = number_is None q
+
+  module _ (n : ℕ) (q : y ≡ Some n) where
+    pub part_large : 255 < n → None ≡ octet_at s i
+    unfolding octet_to on_number
+    part_large h = rw (lt-leb n 255 h) at (number_is (Some n) q)
+
+    pub part_number : n ≤ 255 → Some (record { value = n; end = e }) ≡ octet_at s i
+    unfolding octet_to on_number
+    part_number h = rw (le-leb n 255 h) at (number_is (Some n) q)
+
+pub ruleset part_read = (part_none, part_large, part_number)
+
+-- ---- one part, of which four octets are looked at
 before_take : (c n : ℕ) (s : List ℕ) → before c (take n s) ≡ take n (before c s)
 unfolding before
 before_take c zero s = refl
@@ -80,24 +102,20 @@ module _ (s : List ℕ) (i : ℕ) (near : List ℕ) (are : near ≡ take 4 (drop
 
     -- y is what `read_number` answered on it
     module _ (y : Option ℕ) (r : y ≡ read_number (take e near)) where
-      number_is : (z : Option ℕ) → y ≡ z → octet_to (i + e) z ≡ octet_at s i
-      unfolding octet_at
-      number_is z q = rw ends_there (ap (octet_to (find_at s 46 i)) (sym q ∙ r ∙ ap read_number whole_text))
+      read_whole : y ≡ read_number (take (i + e - i) (drop i s))
+      read_whole = r ∙ ap read_number (whole_text ∙ sym (part_is s 46 i (i + e) ends_there))
 
-      pub part_none : y ≡ None → None ≡ octet_at s i
-      unfolding octet_to on_number
-      part_none q = number_is None q
+      pub near_none : y ≡ None → None ≡ octet_at s i
+      near_none = part_none s i (i + e) ends_there y read_whole
 
       module _ (n : ℕ) (q : y ≡ Some n) where
-        pub part_large : 255 < n → None ≡ octet_at s i
-        unfolding octet_to on_number
-        part_large h = rw (lt-leb n 255 h) at (number_is (Some n) q)
+        pub near_large : 255 < n → None ≡ octet_at s i
+        near_large = part_large s i (i + e) ends_there y read_whole n q
 
-        pub part_number : n ≤ 255 → Some (record { value = n; end = i + e }) ≡ octet_at s i
-        unfolding octet_to on_number
-        part_number h = rw (le-leb n 255 h) at (number_is (Some n) q)
+        pub near_number : n ≤ 255 → Some (record { value = n; end = i + e }) ≡ octet_at s i
+        near_number = part_number s i (i + e) ends_there y read_whole n q
 
-pub ruleset part_read = (part_long, part_none, part_large, part_number)
+pub ruleset near_read = (part_long, near_none, near_large, near_number)
 
 octet_told : (f : ℕ) (p : Part) (z : Option ℕ) → octet_to f z ≡ Some p → (z ≡ Some p.value) × (p.value ≤ 255) × (p.end ≡ f)
 unfolding octet_to on_number
